@@ -1,0 +1,26 @@
+//! The types of the machine, and every definition that two crates cite.
+#![tactic(auto)]
+
+mod access;
+mod command;
+mod entry;
+mod event;
+mod firmware;
+mod item;
+mod listed;
+mod reading;
+mod report;
+mod scenario;
+mod walk;
+
+pub use access::{Place, Verdict};
+pub use command::Command;
+pub use entry::{Kind, PageSize, RmpEntry};
+pub use event::{Deed, Event, FwRefusal, InUse, Outcome, Refusal};
+pub use firmware::{GuestState, MetaEntry, PageState, Part};
+pub use item::{Item, Line, Op, SkipTest, Update};
+pub use listed::Listed;
+pub use reading::{Quantity, Reason};
+pub use report::GuestLine;
+pub use scenario::{Actor, GuestSpec, PageSpec, Paging, Role, Scenario, Turn, WordSpec};
+pub use walk::NestedEnd;
