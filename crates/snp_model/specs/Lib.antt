@@ -1,1 +1,5 @@
 pub mod Facts
+pub mod Faults
+pub mod Operations
+pub mod Verdicts
+pub mod NestedWalk
