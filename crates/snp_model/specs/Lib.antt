@@ -1,5 +1,10 @@
 pub mod Facts
 pub mod Faults
-pub mod Operations
-pub mod Verdicts
+pub mod Locks
 pub mod NestedWalk
+pub mod Opening
+pub mod Operations
+pub mod Run
+pub mod State
+pub mod Step
+pub mod Verdicts
