@@ -3,3 +3,7 @@ pub mod Faults
 pub mod Operations
 pub mod Verdicts
 pub mod NestedWalk
+pub mod Lines
+pub mod ItemLines
+pub mod ScenarioLines
+pub mod Reading
