@@ -7,3 +7,4 @@ pub mod Lines
 pub mod ItemLines
 pub mod ScenarioLines
 pub mod Reading
+pub mod Sound

@@ -17,7 +17,6 @@ use Rattle.snp_model.specs.declared.scenario.Role.TheVariants.{Cpu, Host}
 use Rattle.snp_model.specs.declared.scenario.Paging.TheVariants.{Flat}
 use Rattle.snp_model.specs.declared.item.Line.{Line}
 use Rattle.snp_model.specs.Lines.{◌>>=◌, ◌>>◌, require, word, is_row, is_hex_digit, digit_value, decimal_of, or_reason, fixed, number, ranged, below}
-use Rattle.snp_model.specs.ItemLines.{item_words}
 
 -- the frames of a scenario's memory
 abbrev pub frames_of : Scenario → ℕ
