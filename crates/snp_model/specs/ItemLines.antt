@@ -1,5 +1,5 @@
 -- The lines of items, a row for each form, by the role of their actor. The texts are this project's own.
-use Rattle.std.specs.Prelude.{ℕ, ◌*◌, ◌^◌, if◌then◌else◌, List, Result, Ok, Err, codes}
+use Rattle.std.specs.Prelude.{ℕ, ◌*◌, if◌then◌else◌, List, Result, Ok, Err, codes}
 use Rattle.snp_model.specs.declared.reading.Reason.{Reason}
 use Rattle.snp_model.specs.declared.reading.Reason.TheVariants.{Form}
 use Rattle.snp_model.specs.declared.scenario.Role.{Role}
@@ -8,7 +8,7 @@ use Rattle.snp_model.specs.declared.item.Line.{Line}
 use Rattle.snp_model.specs.declared.item.Op.TheVariants.{Load, Store}
 use Rattle.snp_model.specs.declared.item.Item.{Item}
 use Rattle.snp_model.specs.declared.item.Item.TheVariants.{Access}
-use Rattle.snp_model.specs.Lines.{◌>>=◌, words_of, word, is_plain, is_row, number, aligned}
+use Rattle.snp_model.specs.Lines.{◌>>=◌, words_of, word, is_plain, is_row, number, below, multiple}
 
 -- an item without retries
 abbrev pub once : Item → Line
@@ -17,13 +17,15 @@ once item = record { item = item; retries = 0 }
 -- `load VA`
 unfoldable pub cpu_load_row : List (List ℕ) → Result Line Reason
 cpu_load_row ws = do
-  address ← aligned 8 (2 ^ 64) (word ws 1)
+  place ← number (word ws 1)
+  address ← multiple 8 place
   Ok (once (Access address Load))
 
 -- `store VA V`
 unfoldable pub cpu_store_row : List (List ℕ) → Result Line Reason
 cpu_store_row ws = do
-  address ← aligned 8 (2 ^ 64) (word ws 1)
+  place ← number (word ws 1)
+  address ← multiple 8 place
   value ← number (word ws 2)
   Ok (once (Access address (Store value)))
 
@@ -37,7 +39,8 @@ cpu_item ws =
 -- `store A V`, the address in a memory of so many frames
 unfoldable pub host_store_row : ℕ → List (List ℕ) → Result Line Reason
 host_store_row frames ws = do
-  address ← aligned 8 (4096 * frames) (word ws 1)
+  place ← below (4096 * frames) (word ws 1)
+  address ← multiple 8 place
   value ← number (word ws 2)
   Ok (once (Access address (Store value)))
 

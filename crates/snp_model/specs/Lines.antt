@@ -1,6 +1,7 @@
 -- The words of a line, and the numbers among them. The texts are this project's own.
-use Rattle.std.specs.Prelude.{ℕ, ◌+◌, ◌-◌, ◌*◌, ◌%◌, ◌^◌, ◌==◌, nat_lt, nat_le, Bool, true, false, not, ◌&&◌, ◌||◌, if◌then◌else◌, List, [], ◌∷◌, length, drop, slice_index, slice_index_or, Option, Some, None, Result, Ok, Err, bytes_eq}
+use Rattle.std.specs.Prelude.{ℕ, ◌+◌, ◌-◌, ◌*◌, ◌%◌, ◌^◌, ◌==◌, nat_lt, nat_le, Bool, true, false, not, ◌&&◌, ◌||◌, if◌then◌else◌, List, [], ◌∷◌, length, take, drop, position, slice_index, slice_index_or, Option, Some, None, Result, Ok, Err, bytes_eq}
 use Rattle.std.specs.List.{list_all, slice_split}
+use Rattle.std.specs.Option.{option_map}
 use Rattle.snp_model.specs.declared.reading.Reason.{Reason}
 use Rattle.snp_model.specs.declared.reading.Reason.TheVariants.{Form, Number, Range, Align}
 
@@ -24,6 +25,10 @@ require false reason = Err reason
 -- the parts of bytes between single separators; there is at least one
 abbrev pub parts_at : ℕ → List ℕ → List (List ℕ)
 parts_at separator bytes = slice_split (λ b. b == separator) bytes
+
+-- the bytes before the first separator and those behind it
+abbrev pub cut_at : ℕ → List ℕ → Option (List ℕ × List ℕ)
+cut_at separator bytes = option_map (λ at. (take at bytes, drop (at + 1) bytes)) (position (λ b. b == separator) bytes)
 
 -- the words of a line, which stand between single spaces; a word may be empty
 abbrev pub words_of : List ℕ → List (List ℕ)
@@ -117,8 +122,10 @@ below end w = do
   n ← number w
   if nat_lt n end then Ok n else Err Range
 
--- a number below an end that is a multiple of a unit
-unfoldable pub aligned : ℕ → ℕ → List ℕ → Result ℕ Reason
-aligned unit end w = do
-  n ← below end w
-  if n % unit == 0 then Ok n else Err Align
+-- a number that is a multiple of a unit
+unfoldable pub multiple : ℕ → ℕ → Result ℕ Reason
+multiple unit n = if n % unit == 0 then Ok n else Err Align
+
+-- a decimal number
+unfoldable pub decimal : List ℕ → Result ℕ Reason
+decimal w = or_reason (decimal_of w) Number

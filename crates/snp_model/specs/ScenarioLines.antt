@@ -1,9 +1,8 @@
 -- The lines of the scenario text, a row for each form, with the reason that a line is refused with. The text is this project's own.
-use Rattle.std.specs.Prelude.{ℕ, ◌+◌, ◌-◌, ◌*◌, ◌^◌, ◌==◌, nat_lt, nat_le, Bool, true, false, not, ◌&&◌, ◌||◌, if◌then◌else◌, List, [], ◌∷◌, ◌++◌, length, map, drop, take, slice_index, slice_get, slice_set, Option, Some, None, Result, Ok, Err, codes, bytes_eq, position}
+use Rattle.std.specs.Prelude.{ℕ, ◌+◌, ◌-◌, ◌*◌, ◌^◌, ◌==◌, nat_lt, nat_le, Bool, true, false, not, ◌&&◌, ◌||◌, if◌then◌else◌, List, [], ◌∷◌, ◌++◌, length, map, drop, slice_index, slice_get, slice_set, Option, Some, None, Result, Ok, Err, codes, bytes_eq}
 use Rattle.std.specs.List.{list_all, list_any, range_with_len}
-use Rattle.std.specs.Option.{option_map}
 use Rattle.snp_model.specs.declared.reading.Reason.{Reason}
-use Rattle.snp_model.specs.declared.reading.Reason.TheVariants.{Form, Number, Range, Guest, Repeat}
+use Rattle.snp_model.specs.declared.reading.Reason.TheVariants.{Form, Range, Guest, Repeat}
 use Rattle.snp_model.specs.declared.entry.PageSize.{PageSize}
 use Rattle.snp_model.specs.declared.entry.PageSize.TheVariants.{Small}
 use Rattle.snp_model.specs.declared.scenario.Scenario.{Scenario}
@@ -16,7 +15,7 @@ use Rattle.snp_model.specs.declared.scenario.Role.{Role}
 use Rattle.snp_model.specs.declared.scenario.Role.TheVariants.{Cpu, Host}
 use Rattle.snp_model.specs.declared.scenario.Paging.TheVariants.{Flat}
 use Rattle.snp_model.specs.declared.item.Line.{Line}
-use Rattle.snp_model.specs.Lines.{◌>>=◌, ◌>>◌, require, word, is_row, is_hex_digit, digit_value, decimal_of, or_reason, fixed, number, ranged, below}
+use Rattle.snp_model.specs.Lines.{◌>>=◌, ◌>>◌, require, word, is_row, is_hex_digit, digit_value, decimal, cut_at, fixed, number, ranged, below}
 
 -- the frames of a scenario's memory
 abbrev pub frames_of : Scenario → ℕ
@@ -157,18 +156,10 @@ host_row c ws = do
 abbrev pub with_line : List Actor → Line → Actor → List Actor
 with_line actors line last = slice_set actors (length actors - 1) (record last { script = last.script ++ line ∷ [] })
 
--- a decimal number
-unfoldable pub decimal : List ℕ → Result ℕ Reason
-decimal w = or_reason (decimal_of w) Number
-
 -- a run of a schedule
 unfoldable pub turn_from : ℕ → ℕ → Result Turn Reason
 turn_from actor count =
     if nat_lt actor (2 ^ 32) && (nat_le 1 count && nat_le count 262144) then Ok (record { actor = actor; count = count }) else Err Range
-
--- the bytes before the first separator and those behind it
-abbrev pub cut_at : ℕ → List ℕ → Option (List ℕ × List ℕ)
-cut_at separator bytes = option_map (λ at. (take at bytes, drop (at + 1) bytes)) (position (λ b. b == separator) bytes)
 
 -- `A`, or `A*C`; 42 is `*`
 abbrev pub turn_parts : List ℕ → Option (List ℕ × List ℕ) → Result Turn Reason
