@@ -1,10 +1,15 @@
 pub mod Facts
 pub mod Faults
+pub mod ItemLines
+pub mod Lines
 pub mod Locks
 pub mod NestedWalk
 pub mod Opening
 pub mod Operations
+pub mod Reading
 pub mod Run
+pub mod ScenarioLines
+pub mod Sound
 pub mod State
 pub mod Step
 pub mod Verdicts
