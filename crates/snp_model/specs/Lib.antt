@@ -3,3 +3,7 @@ pub mod Faults
 pub mod Operations
 pub mod Verdicts
 pub mod NestedWalk
+pub mod Outside
+pub mod Journal
+pub mod EventText
+pub mod Report
