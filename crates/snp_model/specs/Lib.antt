@@ -1,12 +1,16 @@
+pub mod EventText
 pub mod Facts
 pub mod Faults
 pub mod ItemLines
+pub mod Journal
 pub mod Lines
 pub mod Locks
 pub mod NestedWalk
 pub mod Opening
 pub mod Operations
+pub mod Outside
 pub mod Reading
+pub mod Report
 pub mod Run
 pub mod ScenarioLines
 pub mod Sound
