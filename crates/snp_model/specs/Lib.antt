@@ -1,9 +1,11 @@
+pub mod Attempts
 pub mod Facts
 pub mod Faults
 pub mod Locks
 pub mod NestedWalk
 pub mod Opening
 pub mod Operations
+pub mod Room
 pub mod Run
 pub mod State
 pub mod Step
