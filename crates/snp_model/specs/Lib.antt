@@ -1,3 +1,4 @@
+pub mod Attempts
 pub mod EventText
 pub mod Facts
 pub mod Faults
@@ -11,6 +12,7 @@ pub mod Operations
 pub mod Outside
 pub mod Reading
 pub mod Report
+pub mod Room
 pub mod Run
 pub mod ScenarioLines
 pub mod Sound

@@ -1,0 +1,3 @@
+pub mod OrderedLaws
+pub mod RoomLaws
+pub mod RunLaws
