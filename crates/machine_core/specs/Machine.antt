@@ -1,0 +1,14 @@
+-- What contracts see of the machine, and the flat state that it stands for.
+use Rattle.std.specs.Prelude.{ℕ, List}
+use Rattle.snp_model.specs.declared.scenario.GuestSpec.{GuestSpec}
+use Rattle.snp_model.specs.State.{ActorPart, State}
+use Rattle.machine_core.specs.Memory.{Image, frames_of, contents_of}
+
+pub record MachineImage : Type 0 where
+  pub memory : Image
+  pub guests : List GuestSpec
+  pub actors : List ActorPart
+
+-- the state that a machine is in
+abbrev pub state_of : MachineImage → State
+state_of machine = record { frames = frames_of machine.memory; guests = machine.guests; contents = contents_of machine.memory machine.guests; actors = machine.actors }
