@@ -1,5 +1,5 @@
 -- Laws of runs: what one more step, or a schedule in two parts, gives.
-use Rattle.std.proofs.Common.{◌≡◌, ◌≢◌, ℕ, zero, suc, ◌+◌, ◌-◌, ◌<◌, ◌≤◌, List, [], ◌∷◌, ◌++◌, length, map, get_or, set, Option, Some, None, IsSomeAnd, slice_get, refl, sym, ap, ◌∙◌, subst, ⊎_elim, arith}
+use Rattle.std.proofs.Common.{◌≡◌, ◌≢◌, ℕ, zero, suc, ◌-◌, ◌<◌, ◌≤◌, List, [], ◌∷◌, ◌++◌, length, map, get_or, set, Option, Some, None, IsSomeAnd, slice_get, refl, sym, ap, ◌∙◌, subst, ⊎_elim, arith}
 use Rattle.std.proofs.lemmas.Bool.{cases_eq, cases_lt, cond_both}
 use Rattle.std.proofs.lemmas.List.{get_or-set_same, get_or-set_other, set_past, length-set}
 use Rattle.snp_model.specs.declared.event.Event.{Event}
@@ -7,8 +7,8 @@ use Rattle.snp_model.specs.declared.event.Outcome.{Outcome}
 use Rattle.snp_model.specs.declared.item.Line.{Line}
 use Rattle.snp_model.specs.State.{ActorPart, State, part_of, idle_part, IsUnfinished}
 use Rattle.snp_model.specs.Locks.{view_of}
-use Rattle.snp_model.specs.Step.{Position, Stepped, Move, step_of, event_of, after, part_after, position_after, tries_again, item_move, line_at}
-use Rattle.snp_model.specs.Run.{run_from, state_from, IsDefinedFrom, position_from}
+use Rattle.snp_model.specs.Step.{Position, Move, step_of, event_of, after, part_after, position_after, tries_again, item_move, line_at}
+use Rattle.snp_model.specs.Run.{run_from, state_from, IsDefinedFrom}
 
 -- a run under a schedule in two parts
 pub run_append : (m : State) (s t : List ℕ) → run_from m (s ++ t) ≡ run_from m s ++ run_from (state_from m s) t
@@ -84,13 +84,13 @@ length_run m (a ∷ s) = ap suc (length_run (after m a) s)
 pub at_set : {X : Type 0} (P : X → Type 0) (xs : List X) (k j : ℕ) (x d : X) → P (get_or xs j d) → (j ≡ k → k < length xs → P x) → P (get_or (set xs k x) j d)
 at_set P xs k j x d old new =
     ⊎_elim
-      (λ (same : j ≡ k).
-        ⊎_elim
-          (λ (l : k < length xs). subst (λ (i : ℕ). P (get_or (set xs k x) i d)) (sym same) (subst P (sym (get_or-set_same xs k x d l)) (new same l)))
-          (λ (g : length xs ≤ k). subst (λ (ys : List _). P (get_or ys j d)) (sym (set_past xs k x g)) old)
-          (cases_lt k (length xs)))
-      (λ (other : j ≡ k → ⊥). subst P (sym (get_or-set_other xs k j x d other)) old)
-      (cases_eq j k)
+    (λ (same : j ≡ k).
+    ⊎_elim
+    (λ (l : k < length xs). subst (λ (i : ℕ). P (get_or (set xs k x) i d)) (sym same) (subst P (sym (get_or-set_same xs k x d l)) (new same l)))
+    (λ (g : length xs ≤ k). subst (λ (ys : List _). P (get_or ys j d)) (sym (set_past xs k x g)) old)
+    (cases_lt k (length xs)))
+    (λ (other : j ≡ k → ⊥). subst P (sym (get_or-set_other xs k j x d other)) old)
+    (cases_eq j k)
 
 -- every actor keeps its role and its script, and its place only goes forward
 pub record KeepsPlace (old new : ActorPart) : Type 0 where
@@ -117,7 +117,7 @@ after_keeps m actor other =
     let old = part_of m actor in
     let move = item_move m.frames (view_of m) old old.role (line_at old.script old.item).item in
     at_set (KeepsPlace (part_of m other)) m.actors (actor - 1) (other - 1) (part_after old move move.outcome) idle_part (keeps_place (part_of m other))
-      (λ same within. subst (λ (k : ℕ). KeepsPlace (get_or m.actors k idle_part) (part_after old move move.outcome)) (sym same) (part_after_keeps old move move.outcome))
+    (λ same within. subst (λ (k : ℕ). KeepsPlace (get_or m.actors k idle_part) (part_after old move move.outcome)) (sym same) (part_after_keeps old move move.outcome))
 
 -- the parts of a state after a step
 pub after_length : (m : State) (actor : ℕ) → length (after m actor).actors ≡ length m.actors
