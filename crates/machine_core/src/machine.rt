@@ -60,8 +60,9 @@ impl Machine {
         ensures finished { OnTrue result ((actor : ℕ) → IsUnfinished (state_of self.now) actor → ⊥) }
         ensures unfinished { OnFalse result ((actor : ℕ) × IsUnfinished (state_of self.now) actor) }
     {
-        'actors: for part in self.actors.iter() {
-            if !part.is_finished() {
+        let count = self.actors.len() as u32;
+        'actors: for actor in 1..=count {
+            if !self.finished(actor) {
                 return false;
             }
         }
