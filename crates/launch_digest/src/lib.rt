@@ -1,0 +1,6 @@
+//! The launch digest of a guest: SHA-384 over PAGE_INFO of each launched page in turn (SEV-SNP firmware ABI 56860, 8.17).
+#![tactic(auto)]
+
+mod digest;
+
+pub use digest::{digest_of_one_page_more, Digest};
