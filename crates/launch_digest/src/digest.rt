@@ -44,18 +44,16 @@ impl Digest {
     /// migration image, `perms` the permissions of VMPL1, VMPL2 and VMPL3, `gpn` the guest page number.
     /// The words count for a NORMAL page alone.
     #[tactic(auto, unfolding(snp_model::specs::Measurement::page_info))]
-    pub fn extend(
-        &mut self,
-        page_type: u8,
-        imi: bool,
-        perms: [u8; 3],
-        gpn: u64,
-        words: &[u64; 512],
-    )
+    pub fn extend(&mut self, page_type: u8, imi: bool, perms: [u8; 3], gpn: u64, words: &[u64; 512])
         requires launched { IsLaunchType page_type }
         requires in_range { gpn < 2 ^ 36 }
         ensures { self.new ≡ digest_after self.old (record {
-            page_type = page_type; imi = imi; perms = perms; gpn = gpn; words = words.now }) }
+          page_type = page_type;
+          imi = imi;
+          perms = perms;
+          gpn = gpn;
+          words = words.now;
+        }) }
     {
         let contents = page_contents(page_type, words);
         let mut page_info = Sha384::new();
@@ -79,8 +77,7 @@ impl Digest {
 pub fn digest_of_one_page_more()
     ensures { (pages : List LaunchedPage) (page : LaunchedPage) →
         measure (pages ++ page ∷ []) ≡ digest_after (measure pages) page }
-{
-}
+{}
 
 // The field CONTENTS of a page with these words.
 #[tactic(auto, unfolding(snp_model::specs::Measurement::page_contents))]

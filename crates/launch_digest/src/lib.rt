@@ -2,5 +2,7 @@
 #![tactic(auto)]
 
 mod digest;
+#[cfg(test)]
+mod tests;
 
-pub use digest::{digest_of_one_page_more, Digest};
+pub use digest::{Digest, digest_of_one_page_more};
