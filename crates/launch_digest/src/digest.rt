@@ -1,6 +1,6 @@
-ghost use Rattle.std.specs.Prelude.{◌≡◌, ◌<◌, ◌^◌, List, [], ◌∷◌, ◌++◌};
+ghost use Rattle.std.specs.Prelude.{◌≡◌, ◌<◌, ◌^◌, ℕ, List, [], ◌∷◌, ◌++◌, length};
 ghost use Rattle.sha2.specs.Sha512.{sha384};
-ghost use Rattle.snp_model.specs.Measurement.{digest_after, measure, page_bytes, page_contents, IsLaunchType, LaunchedPage};
+ghost use Rattle.snp_model.specs.Measurement.{digest_after, measure, page_bytes, page_contents, page_info, IsLaunchType, LaunchedPage};
 
 use sha2::{Digest as _, Sha384};
 use std::marker::Model;
@@ -77,6 +77,12 @@ impl Digest {
 pub fn digest_of_one_page_more()
     ensures { (pages : List LaunchedPage) (page : LaunchedPage) →
         measure (pages ++ page ∷ []) ≡ digest_after (measure pages) page }
+{}
+
+/// Law: PAGE_INFO has the length that it states.
+pub fn length_of_page_info()
+    ensures { (digest : List ℕ) (page : LaunchedPage) →
+        length digest ≡ 48 → length (page_info digest page) ≡ 112 }
 {}
 
 // The field CONTENTS of a page with these words.

@@ -5,4 +5,4 @@ mod digest;
 #[cfg(test)]
 mod tests;
 
-pub use digest::{Digest, digest_of_one_page_more};
+pub use digest::{Digest, digest_of_one_page_more, length_of_page_info};
