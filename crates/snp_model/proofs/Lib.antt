@@ -1,3 +1,5 @@
+pub mod CoreLaws
+pub mod MemoryLaws
 pub mod OrderedLaws
 pub mod RoomLaws
 pub mod RunLaws
