@@ -3,3 +3,4 @@ pub mod MemoryLaws
 pub mod OrderedLaws
 pub mod RoomLaws
 pub mod RunLaws
+pub mod UseLaws
