@@ -8,7 +8,7 @@ use Rattle.snp_model.specs.declared.scenario.GuestSpec.{GuestSpec}
 use Rattle.snp_model.specs.declared.scenario.Role.{Role}
 use Rattle.snp_model.specs.declared.scenario.Role.TheVariants.{Cpu, Host, Firmware}
 use Rattle.snp_model.specs.State.{Contents, ActorPart, View}
-use Rattle.snp_model.specs.Step.{Move, Processor}
+use Rattle.snp_model.specs.Step.{Move, Processor, line_at}
 use Rattle.machine_core.specs.declared.cpu.Processor as cpus
 use Rattle.machine_core.specs.declared.shown.Shown.{Shown}
 
@@ -35,7 +35,7 @@ IsSoundRole frames guests Firmware = Unit {0}
 -- an actor's part fits a memory of so many frames and so many guests
 pub record IsSoundPart (frames guests : ℕ) (part : ActorPart) : Type 0 where
   pub role : IsSoundRole frames guests part.role
-  pub items : (k : ℕ) (line : Line) → IsSoundItem frames part.role line.item
+  pub items : (k : ℕ) → k < length part.script → IsSoundItem frames part.role (line_at part.script k).item
 
 -- a processor as the model sees it
 abbrev pub processor_of : cpus.Processor → Processor

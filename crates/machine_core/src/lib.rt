@@ -6,10 +6,10 @@ mod actor;
 mod cpu;
 mod event;
 mod host;
-// mod machine;
+mod machine;
 mod memory;
 mod shown;
 mod verdict;
 mod walk;
 
-// pub use machine::Machine;
+pub use machine::Machine;

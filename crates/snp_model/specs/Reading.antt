@@ -8,6 +8,7 @@ use Rattle.snp_model.specs.declared.scenario.Scenario.{Scenario}
 use Rattle.snp_model.specs.declared.scenario.Actor.{Actor}
 use Rattle.snp_model.specs.declared.scenario.Turn.{Turn}
 use Rattle.snp_model.specs.declared.item.Line.{Line}
+use Rattle.snp_model.specs.Attempts.{attempts_of}
 use Rattle.snp_model.specs.Lines.{◌>>=◌, ◌>>◌, parts_at, words_of, word, is_plain, is_row}
 use Rattle.snp_model.specs.ItemLines.{item_words}
 use Rattle.snp_model.specs.ScenarioLines.{frames_of, has_no, before_orders, before_actors, before_words, before_pages, first_scenario, version_row, regions_row, guest_row, page_row, word_row, cpu_row, host_row, with_line, order_row}
@@ -23,16 +24,6 @@ order_of c = turns_spell c.order
 unfoldable pub turns_count : List Turn → ℕ
 turns_count [] = 0
 turns_count (turn ∷ turns) = turn.count + turns_count turns
-
--- the attempts of a script, of actors and of a scenario: 1 for each item, and its retries
-unfoldable pub script_attempts : List Line → ℕ
-script_attempts [] = 0
-script_attempts (line ∷ lines) = 1 + line.retries + script_attempts lines
-unfoldable pub actors_attempts : List Actor → ℕ
-actors_attempts [] = 0
-actors_attempts (actor ∷ actors) = script_attempts actor.script + actors_attempts actors
-unfoldable pub attempts_of : Scenario → ℕ
-attempts_of c = actors_attempts c.actors
 
 -- what is made so far: nothing before the line `snp 1`, then a scenario, which the line `end` closes
 pub data Made : Type 0 where

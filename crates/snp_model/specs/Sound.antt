@@ -18,7 +18,8 @@ use Rattle.snp_model.specs.declared.item.Item.TheVariants.{Access}
 use Rattle.snp_model.specs.declared.item.Op.{Op}
 use Rattle.snp_model.specs.declared.item.Op.TheVariants.{Load, Store}
 use Rattle.snp_model.specs.ScenarioLines.{frames_of}
-use Rattle.snp_model.specs.Reading.{order_of, attempts_of}
+use Rattle.snp_model.specs.Attempts.{attempts_of}
+use Rattle.snp_model.specs.Reading.{order_of}
 
 -- a relation between each element and each later one
 abbrev pub Pairwise : {X : Type 0} → (X → X → Type 0) → List X → Type 0
