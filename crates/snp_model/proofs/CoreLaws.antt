@@ -1,13 +1,12 @@
 -- How the one holder of each page is kept: the general lemmas, whatever the event is.
-use Rattle.std.proofs.Common.{◌≡◌, ◌≢◌, ◌⊎◌, ℕ, ◌+◌, ◌-◌, ◌<◌, ◌≤◌, Bool, true, false, cond, eqb, List, length, get_or, set, Option, Some, None, refl, sym, ap, ◌∙◌, subst, ⊎_elim, inl, inr, arith}
+use Rattle.std.proofs.Common.{◌≡◌, ◌≢◌, ℕ, ◌<◌, eqb, List, length, get_or, set, Some, refl, sym, ap, ◌∙◌, subst, ⊎_elim}
 use Rattle.std.proofs.lemmas.Bool.{cond_both, cases_eq, eqb-true, eqb-false}
-use Rattle.std.proofs.lemmas.Bool.Decides.{nat_tests}
 use Rattle.std.proofs.lemmas.List.{get_or-set_same, get_or-set_other, length-set}
 use Rattle.snp_model.specs.declared.entry.RmpEntry.{RmpEntry}
 use Rattle.snp_model.specs.State.{Page, Pages, with_word, word_of}
-use Rattle.snp_model.specs.GuestMemory.{Memory, IsHeld, known, with_known, MayRead}
+use Rattle.snp_model.specs.GuestMemory.{Memory, known, with_known, MayRead}
 use Rattle.snp_model.specs.Holders.{Holder, InFrame, InEntry, Archive, IsHeldAs, Holds, held_words, Core}
-use Rattle.snp_model.proofs.MemoryLaws.{IsSamePlace, KnownSince, with_known_held, with_known_known}
+use Rattle.snp_model.proofs.MemoryLaws.{IsSamePlace, with_known_held, with_known_known}
 
 -- a written word changes no facts
 pub with_word_facts : (frame index value : ℕ) (pages : Pages) (f : ℕ) → (with_word frame index value pages f).facts ≡ (pages f).facts
@@ -79,12 +78,12 @@ agree_read : (pages : Pages) (archive : Archive) (asid : ℕ) (memory : Memory) 
     → get_or (held_words pages archive x) place 0 ≡ word
 agree_read pages archive asid memory gpn frame index value core h is q x place word hx k =
     ⊎_elim
-      (λ (now : IsSamePlace gpn index q place × (word ≡ value)).
-        let here : Holds pages asid gpn x = subst (λ (p : ℕ). Holds pages asid p x) now.0.page hx in
-        let one : x ≡ InFrame frame = core.unique gpn x (InFrame frame) here h in
-        ap (λ (y : Holder). get_or (held_words pages archive y) place 0) one ∙ ap (λ (i : ℕ). word_of (pages frame) i) now.0.place ∙ is ∙ sym now.1)
-      (λ (before : (IsSamePlace gpn index q place → ⊥) × (known memory q place ≡ Some word)). core.agree q x place word hx before.1)
-      (with_known_known gpn index value memory q place word k)
+    (λ (now : IsSamePlace gpn index q place × (word ≡ value)).
+    let here : Holds pages asid gpn x = subst (λ (p : ℕ). Holds pages asid p x) now.0.page hx in
+    let one : x ≡ InFrame frame = core.unique gpn x (InFrame frame) here h in
+    ap (λ (y : Holder). get_or (held_words pages archive y) place 0) one ∙ ap (λ (i : ℕ). word_of (pages frame) i) now.0.place ∙ is ∙ sym now.1)
+    (λ (before : (IsSamePlace gpn index q place → ⊥) × (known memory q place ≡ Some word)). core.agree q x place word hx before.1)
+    (with_known_known gpn index value memory q place word k)
 
 pub core_reads : (pages : Pages) (archive : Archive) (asid : ℕ) (memory : Memory) (gpn frame index value : ℕ)
     → Core pages archive asid memory → IsHeldAs (pages frame).facts asid gpn → word_of (pages frame) index ≡ value
@@ -103,10 +102,10 @@ word_written frame index value pages within =
 word_kept : (frame index value : ℕ) (pages : Pages) (f place : ℕ) → (f ≡ frame → place ≢ index) → word_of (with_word frame index value pages f) place ≡ word_of (pages f) place
 word_kept frame index value pages f place apart =
     ⊎_elim
-      (λ (same : f ≡ frame).
-        ap (λ (words : List ℕ). get_or words place 0) (with_word_words frame index value pages f same) ∙ get_or-set_other (pages f).words index place value 0 (apart same))
-      (λ (other : f ≡ frame → ⊥). ap (λ (words : List ℕ). get_or words place 0) (with_word_other frame index value pages f other))
-      (cases_eq f frame)
+    (λ (same : f ≡ frame).
+    ap (λ (words : List ℕ). get_or words place 0) (with_word_words frame index value pages f same) ∙ get_or-set_other (pages f).words index place value 0 (apart same))
+    (λ (other : f ≡ frame → ⊥). ap (λ (words : List ℕ). get_or words place 0) (with_word_other frame index value pages f other))
+    (cases_eq f frame)
 
 agree_write : (pages : Pages) (archive : Archive) (asid : ℕ) (memory : Memory) (gpn frame index value : ℕ)
     → Core pages archive asid memory → IsHeldAs (pages frame).facts asid gpn → index < length (pages frame).words
@@ -115,16 +114,16 @@ agree_write : (pages : Pages) (archive : Archive) (asid : ℕ) (memory : Memory)
 agree_write pages archive asid memory gpn frame index value core h within q (InEntry f e) place word hx k = absurd hx
 agree_write pages archive asid memory gpn frame index value core h within q (InFrame f) place word hx k =
     ⊎_elim
-      (λ (now : IsSamePlace gpn index q place × (word ≡ value)).
-        let here : Holds pages asid gpn (InFrame f) = subst (λ (p : ℕ). Holds pages asid p (InFrame f)) now.0.page hx in
-        let one : f ≡ frame = in_frame f frame (core.unique gpn (InFrame f) (InFrame frame) here h) in
-        ap (λ (g : ℕ). word_of (with_word frame index value pages g) place) one ∙ ap (λ (i : ℕ). word_of (with_word frame index value pages frame) i) now.0.place
-          ∙ word_written frame index value pages within ∙ sym now.1)
-      (λ (before : (IsSamePlace gpn index q place → ⊥) × (known memory q place ≡ Some word)).
-        let apart : f ≡ frame → place ≢ index =
-            λ same at. before.0 (record { page = one_page (pages frame).facts asid gpn q h (subst (λ (g : ℕ). IsHeldAs (pages g).facts asid q) same hx); place = at }) in
-        word_kept frame index value pages f place apart ∙ core.agree q (InFrame f) place word hx before.1)
-      (with_known_known gpn index value memory q place word k)
+    (λ (now : IsSamePlace gpn index q place × (word ≡ value)).
+    let here : Holds pages asid gpn (InFrame f) = subst (λ (p : ℕ). Holds pages asid p (InFrame f)) now.0.page hx in
+    let one : f ≡ frame = in_frame f frame (core.unique gpn (InFrame f) (InFrame frame) here h) in
+    ap (λ (g : ℕ). word_of (with_word frame index value pages g) place) one ∙ ap (λ (i : ℕ). word_of (with_word frame index value pages frame) i) now.0.place
+    ∙ word_written frame index value pages within ∙ sym now.1)
+    (λ (before : (IsSamePlace gpn index q place → ⊥) × (known memory q place ≡ Some word)).
+    let apart : f ≡ frame → place ≢ index =
+    λ same at. before.0 (record { page = one_page (pages frame).facts asid gpn q h (subst (λ (g : ℕ). IsHeldAs (pages g).facts asid q) same hx); place = at }) in
+    word_kept frame index value pages f place apart ∙ core.agree q (InFrame f) place word hx before.1)
+    (with_known_known gpn index value memory q place word k)
 
 pub core_writes : (pages : Pages) (archive : Archive) (asid : ℕ) (memory : Memory) (gpn frame index value : ℕ)
     → Core pages archive asid memory → IsHeldAs (pages frame).facts asid gpn → index < length (pages frame).words

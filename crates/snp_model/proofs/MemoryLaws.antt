@@ -1,8 +1,8 @@
 -- What a guest's memory holds and knows after a change.
-use Rattle.std.proofs.Common.{◌≡◌, ◌≢◌, ◌⊎◌, ℕ, zero, suc, ◌+◌, ◌-◌, ◌<◌, ◌≤◌, Bool, true, false, cond, eqb, List, [], ◌∷◌, length, map, get_or, set, Option, Some, None, option_map, unwrap_or, nat_cmp, is_eq, refl, sym, ap, ◌∙◌, subst, ⊎_elim, inl, inr, arith}
-use Rattle.std.specs.FinMap.{FinMap, empty, get, insert, get-insert, get-empty}
+use Rattle.std.proofs.Common.{◌≡◌, ◌≢◌, ◌⊎◌, ℕ, zero, suc, ◌+◌, ◌-◌, ◌<◌, ◌≤◌, Bool, true, false, cond, eqb, List, [], ◌∷◌, length, map, get_or, set, Option, Some, None, option_map, unwrap_or, nat_cmp, is_eq, refl, sym, ap, ◌∙◌, ⊎_elim, inl, inr, arith}
+use Rattle.std.specs.FinMap.{empty, get, insert, get-insert, get-empty}
 use Rattle.std.specs.Cmp.{nat_cmp_total}
-use Rattle.std.proofs.lemmas.Bool.{cond_both, cases_eq, cases_lt, cases_Bool, eqb-true, eq-eqb, ne_eqb, cond-true, cond-false}
+use Rattle.std.proofs.lemmas.Bool.{cond_both, cases_eq, cases_lt, eqb-true, eq-eqb, ne_eqb, cond-true, cond-false}
 use Rattle.std.proofs.lemmas.Option.{none-some}
 use Rattle.std.proofs.lemmas.Bool.Decides.{nat_tests}
 use Rattle.std.proofs.lemmas.List.{get_or-set_same, get_or-set_other, set_past, get_or_past}
@@ -50,9 +50,9 @@ set_in_none index value (Some places) e = cc
 pub with_known_held : (gpn index value : ℕ) (memory : Memory) (q : ℕ) → IsHeld memory q → IsHeld (with_known gpn index value memory) q
 with_known_held gpn index value memory q held none =
     ⊎_elim
-      (λ (same : q ≡ gpn). held (ap (get memory) same ∙ set_in_none index value (get memory gpn) (sym (get_at_known gpn index value memory q same) ∙ none)))
-      (λ (other : q ≡ gpn → ⊥). held (sym (get_off_known gpn index value memory q other) ∙ none))
-      (cases_eq q gpn)
+    (λ (same : q ≡ gpn). held (ap (get memory) same ∙ set_in_none index value (get memory gpn) (sym (get_at_known gpn index value memory q same) ∙ none)))
+    (λ (other : q ≡ gpn → ⊥). held (sym (get_off_known gpn index value memory q other) ∙ none))
+    (cases_eq q gpn)
 
 -- what is known after a word is known: that word, and else what was known before
 pub record IsSamePlace (gpn index q j : ℕ) : Type 0 where
@@ -68,34 +68,34 @@ set_known : (page : Option Places) (index value j word : ℕ) → place_in (set_
 set_known None index value j word e = absurd cc
 set_known (Some places) index value j word e =
     ⊎_elim
-      (λ (same : j ≡ index).
-        ⊎_elim
-          (λ (within : index < length places).
-            let here = get_or-set_same places index (Some value) None within in
-            let there = ap (λ (k : ℕ). get_or (set places index (Some value)) k None) same in
-            let is : Some value ≡ Some word = sym here ∙ sym there ∙ e in
-            inl (same, cc))
-          (λ (past : length places ≤ index).
-            let whole = ap (λ (ps : Places). get_or ps j None) (set_past places index (Some value) past) in
-            let none = get_or_past places j None (omega arith) in
-            let is : None ≡ Some word = sym none ∙ sym whole ∙ e in
-            absurd cc)
-          (cases_lt index (length places)))
-      (λ (other : j ≡ index → ⊥). inr (other, sym (get_or-set_other places index j (Some value) None other) ∙ e))
-      (cases_eq j index)
+    (λ (same : j ≡ index).
+    ⊎_elim
+    (λ (within : index < length places).
+    let here = get_or-set_same places index (Some value) None within in
+    let there = ap (λ (k : ℕ). get_or (set places index (Some value)) k None) same in
+    let is : Some value ≡ Some word = sym here ∙ sym there ∙ e in
+    inl (same, cc))
+    (λ (past : length places ≤ index).
+    let whole = ap (λ (ps : Places). get_or ps j None) (set_past places index (Some value) past) in
+    let none = get_or_past places j None (omega arith) in
+    let is : None ≡ Some word = sym none ∙ sym whole ∙ e in
+    absurd cc)
+    (cases_lt index (length places)))
+    (λ (other : j ≡ index → ⊥). inr (other, sym (get_or-set_other places index j (Some value) None other) ∙ e))
+    (cases_eq j index)
 
 pub with_known_known : (gpn index value : ℕ) (memory : Memory) (q j word : ℕ) → known (with_known gpn index value memory) q j ≡ Some word → KnownSince memory gpn index value q j word
 with_known_known gpn index value memory q j word e =
     ⊎_elim
-      (λ (same : q ≡ gpn).
-        ⊎_elim
-          (λ (h : (j ≡ index) × (word ≡ value)). inl (record { page = same; place = h.0 }, h.1))
-          (λ (h : (j ≡ index → ⊥) × (place_in (get memory gpn) j ≡ Some word)).
-            inr ((λ (s : IsSamePlace gpn index q j). h.0 s.place), ap (λ (p : ℕ). known memory p j) same ∙ h.1))
-          (set_known (get memory gpn) index value j word (sym (ap (λ (page : Option Places). place_in page j) (get_at_known gpn index value memory q same)) ∙ e)))
-      (λ (other : q ≡ gpn → ⊥).
-        inr ((λ (s : IsSamePlace gpn index q j). other s.page), sym (ap (λ (page : Option Places). place_in page j) (get_off_known gpn index value memory q other)) ∙ e))
-      (cases_eq q gpn)
+    (λ (same : q ≡ gpn).
+    ⊎_elim
+    (λ (h : (j ≡ index) × (word ≡ value)). inl (record { page = same; place = h.0 }, h.1))
+    (λ (h : (j ≡ index → ⊥) × (place_in (get memory gpn) j ≡ Some word)).
+    inr ((λ (s : IsSamePlace gpn index q j). h.0 s.place), ap (λ (p : ℕ). known memory p j) same ∙ h.1))
+    (set_known (get memory gpn) index value j word (sym (ap (λ (page : Option Places). place_in page j) (get_at_known gpn index value memory q same)) ∙ e)))
+    (λ (other : q ≡ gpn → ⊥).
+    inr ((λ (s : IsSamePlace gpn index q j). other s.page), sym (ap (λ (page : Option Places). place_in page j) (get_off_known gpn index value memory q other)) ∙ e))
+    (cases_eq q gpn)
 
 -- further pages, by look-ups
 cond_under : {X : Type 0} (b : Bool) (x y z : X) → (b ≡ true → x ≡ y) → cond b x z ≡ cond b y z
@@ -116,22 +116,18 @@ get_with_frames words (suc n) frame gpn memory q =
     let rest = get_with_frames words n (frame + 1) (gpn + 1) memory q in
     let first = get_inserted (with_frames words (frame + 1) (gpn + 1) n memory) gpn (map Some (words frame)) q in
     ⊎_elim
-      (λ (same : q ≡ gpn).
-        let none : frame + (q - gpn) ≡ frame = omega arith in
-        let place = ap (λ (f : ℕ). Some (map {B = Option ℕ} Some (words f))) none in
-        grind (arith, nat_tests))
-      (λ (other : q ≡ gpn → ⊥).
-        let off = first ∙ ap (λ (b : Bool). cond b (Some (map {B = Option ℕ} Some (words frame))) (get (with_frames words (frame + 1) (gpn + 1) n memory) q)) (ne_eqb q gpn other) ∙ rest in
-        let page = λ (k : ℕ). Some (map {B = Option ℕ} Some (words k)) in
-        let place = λ (inside : in_range (gpn + 1) n q ≡ true). ap page (range_place frame gpn n q inside) in
-        off ∙ cond_under (in_range (gpn + 1) n q) _ _ (get memory q) place ∙ ap (λ (b : Bool). cond b (page (frame + (q - gpn))) (get memory q)) (range_next gpn n q other))
-      (cases_eq q gpn)
+    (λ (same : q ≡ gpn).
+    let none : frame + (q - gpn) ≡ frame = omega arith in
+    let place = ap (λ (f : ℕ). Some (map {B = Option ℕ} Some (words f))) none in
+    grind (arith, nat_tests))
+    (λ (other : q ≡ gpn → ⊥).
+    let off = first ∙ ap (λ (b : Bool). cond b (Some (map {B = Option ℕ} Some (words frame))) (get (with_frames words (frame + 1) (gpn + 1) n memory) q)) (ne_eqb q gpn other) ∙ rest in
+    let page = λ (k : ℕ). Some (map {B = Option ℕ} Some (words k)) in
+    let place = λ (inside : in_range (gpn + 1) n q ≡ true). ap page (range_place frame gpn n q inside) in
+    off ∙ cond_under (in_range (gpn + 1) n q) _ _ (get memory q) place ∙ ap (λ (b : Bool). cond b (page (frame + (q - gpn))) (get memory q)) (range_next gpn n q other))
+    (cases_eq q gpn)
 
--- so a page is held after it where it is one of these, or was held
-pub with_frames_held : (words : ℕ → List ℕ) (n frame gpn : ℕ) (memory : Memory) (q : ℕ) → IsHeld (with_frames words frame gpn n memory) q → in_range gpn n q ≡ false → IsHeld memory q
-with_frames_held words n frame gpn memory q held outside none =
-    held (get_with_frames words n frame gpn memory q ∙ cond-false (in_range gpn n q) _ _ outside ∙ none)
-
+-- these pages are held, and each other page is as before
 pub with_frames_holds : (words : ℕ → List ℕ) (n frame gpn : ℕ) (memory : Memory) (q : ℕ) → in_range gpn n q ≡ true → IsHeld (with_frames words frame gpn n memory) q
 with_frames_holds words n frame gpn memory q inside none =
     none-some _ (sym none ∙ get_with_frames words n frame gpn memory q ∙ cond-true (in_range gpn n q) _ _ inside)
@@ -154,3 +150,8 @@ with_frames_known words n frame gpn memory q j word inside e =
 
 pub empty_known : (q : ℕ) → get (empty {X = Places} {R = nat_cmp}) q ≡ None
 empty_known q = get-empty nat_cmp q
+
+pub known_before : (words : ℕ → List ℕ) (n frame gpn : ℕ) (memory : Memory) (q j word : ℕ) → in_range gpn n q ≡ false
+    → known (with_frames words frame gpn n memory) q j ≡ Some word → known memory q j ≡ Some word
+known_before words n frame gpn memory q j word outside e =
+    sym (ap (λ (page : Option Places). place_in page j) (with_frames_keeps words n frame gpn memory q outside)) ∙ e

@@ -1,5 +1,5 @@
 -- Each event keeps the one holder of each page, and finds in the guest's memory what it needs.
-use Rattle.std.proofs.Common.{◌≡◌, ◌≢◌, ℕ, ◌+◌, ◌-◌, ◌/◌, ◌%◌, ◌<◌, ◌≤◌, Bool, true, false, not, ◌&&◌, ◌||◌, cond, eqb, slice_index, List, [], ◌∷◌, ◌++◌, length, Option, Some, None, refl, sym, ap, ◌∙◌, subst, arith}
+use Rattle.std.proofs.Common.{◌≡◌, ◌≢◌, ℕ, ◌/◌, ◌<◌, Bool, true, false, not, ◌&&◌, ◌||◌, eqb, slice_index, List, [], ◌∷◌, length, Option, Some, None, refl, sym, ◌∙◌, subst, arith}
 use Rattle.std.proofs.lemmas.Bool.{cond_both, eqb-true, eqb-false, true≢false}
 use Rattle.std.proofs.lemmas.Bool.Decides.{nat_tests}
 use Rattle.snp_model.specs.declared.access.Place.{Place}
@@ -20,11 +20,10 @@ use Rattle.snp_model.specs.declared.scenario.Role.{Role}
 use Rattle.snp_model.specs.declared.scenario.Role.TheVariants.{Cpu, Host, Firmware}
 use Rattle.snp_model.specs.declared.walk.NestedEnd.{NestedEnd}
 use Rattle.snp_model.specs.declared.walk.NestedEnd.TheVariants as ends
-use Rattle.snp_model.specs.NestedWalk.{nested_end}
 use Rattle.snp_model.specs.Operations.{outcome_of}
 use Rattle.snp_model.specs.Verdicts.{private_verdict, private_refusal, host_verdict, is_large, lacks}
-use Rattle.snp_model.specs.State.{Page, Pages, Context, Contexts, Contents, ActorPart, View, with_word, word_of}
-use Rattle.snp_model.specs.Step.{Move, item_move, nested_words, is_running, is_canonical, quiet_move, unbuilt_move, access_move, pages_after, begin_move, nested_move, flat_move, flat_access, host_access, flat_path, flat_place, flat_gpn, index_of, Processor}
+use Rattle.snp_model.specs.State.{Pages, Context, Contexts, Contents, ActorPart, View, word_of}
+use Rattle.snp_model.specs.Step.{Move, item_move, is_running, is_canonical, quiet_move, unbuilt_move, access_move, pages_after, begin_move, nested_move, flat_move, flat_access, host_access, flat_place, flat_gpn, index_of, Processor}
 use Rattle.snp_model.specs.GuestMemory.{Memory, Use, Untouched, use_of_word, use_of, use_for, IsLegalUse, used}
 use Rattle.snp_model.specs.Holders.{Archive, InFrame, IsHeldAs, Core}
 use Rattle.snp_model.proofs.CoreLaws.{with_word_length, core_writes_elsewhere, core_may_read, core_reads, core_writes}
@@ -88,7 +87,7 @@ unfolding begin_move use_of
 begin_fine guest asid archive memory old part role item context address before =
     let quiet = λ (outcome : Option Outcome). quiet_fine guest asid archive memory old part role item deeds.Begin outcome before refl in
     cond_both (not (is_running context.state)) _ _ (MoveFine guest asid archive memory old role item) (λ _. quiet (Some outcomes.Offline))
-      (λ _. cond_both (not (is_canonical address)) _ _ (MoveFine guest asid archive memory old role item) (λ _. quiet (Some outcomes.Gp)) (λ _. quiet None))
+    (λ _. cond_both (not (is_canonical address)) _ _ (MoveFine guest asid archive memory old role item) (λ _. quiet (Some outcomes.Gp)) (λ _. quiet None))
 
 -- a word written, or none
 pages_whole : (op : Op) (frame index word : ℕ) (pages : Pages) → AreWhole pages → AreWhole (pages_after op frame index word pages)
@@ -121,7 +120,7 @@ elsewhere_fine asid archive memory old op frame index word before none = record 
 own_fine : (asid : ℕ) (archive : Archive) (memory : Memory) (old : Contents) (op : Op) (gpn frame index : ℕ) → Before asid archive memory old
     → IsHeldAs (old.pages frame).facts asid gpn → index < 512
     → let word = word_of (old.pages frame) index in
-      Fine asid archive memory old (record old { pages = pages_after op frame index word old.pages }) (use_of_word (outcome_of op word) op gpn index)
+    Fine asid archive memory old (record old { pages = pages_after op frame index word old.pages }) (use_of_word (outcome_of op word) op gpn index)
 unfolding use_of_word used
 own_fine asid archive memory old Load gpn frame index before h below = record {
   legal = core_may_read old.pages archive asid memory gpn frame index before.core h;
@@ -193,11 +192,11 @@ private_quiet facts place op gpn index =
     let P = IsQuiet op gpn index in
     let refused = λ (by_permissions : Bool). refusal_quiet place op by_permissions gpn index in
     cond_both (not facts.assigned || not (eqb facts.asid place.asid)) _ _ P (λ _. refused false)
-      (λ _. cond_both (not (eqb facts.gpn place.gpn)) _ _ P (λ _. refused false)
-        (λ _. cond_both facts.immutable _ _ P (λ _. refused false)
-          (λ _. cond_both (is_large place.leaf && not (is_large facts.size)) _ _ P (λ _. refused false)
-            (λ _. cond_both (not facts.validated) _ _ P (λ _. unvalidated_quiet op gpn index)
-              (λ _. cond_both (lacks (slice_index facts.perms place.vmpl) op) _ _ P (λ _. refused true) (λ _. pass_quiet op gpn index))))))
+    (λ _. cond_both (not (eqb facts.gpn place.gpn)) _ _ P (λ _. refused false)
+    (λ _. cond_both facts.immutable _ _ P (λ _. refused false)
+    (λ _. cond_both (is_large place.leaf && not (is_large facts.size)) _ _ P (λ _. refused false)
+    (λ _. cond_both (not facts.validated) _ _ P (λ _. unvalidated_quiet op gpn index)
+    (λ _. cond_both (lacks (slice_index facts.perms place.vmpl) op) _ _ P (λ _. refused true) (λ _. pass_quiet op gpn index))))))
 
 private_faults : (facts : RmpEntry) (place : Place) (op : Op) (outcome : Outcome) (gpn index : ℕ) → private_verdict facts place op ≡ Fault outcome → use_of_word outcome op gpn index ≡ Untouched
 private_faults facts place op outcome gpn index e = (private_quiet facts place op gpn index).quiet outcome e
@@ -232,14 +231,14 @@ private_fine guest asid archive memory old part owner vmpl npt paging address op
     let h : IsHeldAs facts (old.contexts owner).asid gpn = subst (λ (p : ℕ). IsHeldAs facts (old.contexts owner).asid p) gpn_is (held_asid facts place.asid (old.contexts owner).asid place.gpn asid_is passed) in
     record {
       fine = cond_both (eqb owner guest) _ _ (Fine asid archive memory old (record old { pages = pages_after op frame index word old.pages }))
-        (λ same. own_fine asid archive memory old op gpn frame index before (held_asid facts (old.contexts owner).asid asid gpn (owns.own (eqb-true owner guest same)) h) below)
-        (λ different. elsewhere_fine asid archive memory old op frame index word before (λ q hq. owns.other (eqb-false owner guest different) (sym h.asid_is ∙ hq.asid_is)));
+          (λ same. own_fine asid archive memory old op gpn frame index before (held_asid facts (old.contexts owner).asid asid gpn (owns.own (eqb-true owner guest same)) h) below)
+          (λ different. elsewhere_fine asid archive memory old op frame index word before (λ q hq. owns.other (eqb-false owner guest different) (sym h.asid_is ∙ hq.asid_is)));
     }
 private_fine guest asid archive memory old part owner vmpl npt paging address op gpn frame index place Hidden before owns below asid_is gpn_is is =
     quiet_fine guest asid archive memory old part (Cpu owner vmpl npt paging) (Access address op) (deeds.Access gpn index frame true) (Some outcomes.Opaque) before (hidden_quiet op gpn index)
 private_fine guest asid archive memory old part owner vmpl npt paging address op gpn frame index place (Fault outcome) before owns below asid_is gpn_is is =
     quiet_fine guest asid archive memory old part (Cpu owner vmpl npt paging) (Access address op) (deeds.Access gpn index frame true) (Some outcome) before
-      (private_faults (old.pages frame).facts place op outcome gpn index is)
+    (private_faults (old.pages frame).facts place op outcome gpn index is)
 
 -- a host access, by what the RMP says
 host_fine : (guest asid : ℕ) (archive : Archive) (memory : Memory) (old : Contents) (part : ActorPart) (item : Item) (op : Op) (frame index : ℕ) (verdict : Verdict)
@@ -248,7 +247,7 @@ host_fine : (guest asid : ℕ) (archive : Archive) (memory : Memory) (old : Cont
 unfolding access_move use_for
 host_fine guest asid archive memory old part item op frame index Pass before is = record {
   fine = elsewhere_fine asid archive memory old op frame index (word_of (old.pages frame) index) before
-    (λ gpn h. true≢false (sym h.assigned ∙ host_holds_none (old.pages frame).facts op is));
+      (λ gpn h. true≢false (sym h.assigned ∙ host_holds_none (old.pages frame).facts op is));
 }
 host_fine guest asid archive memory old part item op frame index Hidden before is = record { fine = nothing_fine asid archive memory old before }
 host_fine guest asid archive memory old part item op frame index (Fault outcome) before is = record { fine = nothing_fine asid archive memory old before }
@@ -263,7 +262,7 @@ flat_fine guest asid archive memory frames old part owner vmpl npt address op (e
 flat_fine guest asid archive memory frames old part owner vmpl npt address op (ends.Leaf frame size) before owns =
     let cpu : Processor = record { guest = owner; vmpl = vmpl; npt = npt } in
     private_fine guest asid archive memory old part owner vmpl npt Flat address op (flat_gpn address) frame (index_of address) (flat_place (old.contexts owner).asid cpu address frame size) _
-      before owns (omega arith) refl refl refl
+    before owns (omega arith) refl refl refl
 flat_fine guest asid archive memory frames old part owner vmpl npt address op (ends.Fault code) before owns =
     unbuilt_fine guest asid archive memory old part (Cpu owner vmpl npt Flat) (Access address op) before
 

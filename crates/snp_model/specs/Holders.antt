@@ -1,5 +1,5 @@
 -- Where a guest's page is kept, and what ties it to the guest's memory (this project's own).
-use Rattle.std.specs.Prelude.{◌≡◌, ℕ, true, List, [], Option, Some, None, slice_index_or, unwrap_or}
+use Rattle.std.specs.Prelude.{◌≡◌, ℕ, true, List, [], Option, Some, slice_index_or, unwrap_or}
 use Rattle.std.specs.Option.{option_map}
 use Rattle.snp_model.specs.declared.entry.RmpEntry.{RmpEntry}
 use Rattle.snp_model.specs.State.{Pages}
