@@ -1,4 +1,5 @@
-ghost use Rattle.std.specs.Prelude.{◌≡◌, ◌+◌, ◌<◌, ◌≤◌, ◌^◌, ◌==◌, nat_le, length, None, IfSome, IsNone};
+ghost use Rattle.std.specs.Prelude.{◌≡◌, ◌+◌, ◌<◌, ◌≤◌, ◌^◌, ◌==◌, nat_le, length, None, IfOk, IsNone};
+ghost use Rattle.snp_model.specs.Opening.{opening_part};
 ghost use Rattle.snp_model.specs.Step.{line_at, passed_over, tries_again, last_after, part_after};
 ghost use Rattle.snp_model.specs.declared.event.Event.{Event};
 ghost use Rattle.snp_model.specs.State.{Contents};
@@ -33,6 +34,21 @@ impl Model for ActorState {
 }
 
 impl ActorState {
+    /// An actor before its first item.
+    pub fn new(alloc: Global, actor: &Actor) -> Result<ActorState, AllocError>
+        requires { length actor.now.script < 2 ^ 32 }
+        ensures { IfOk result (λ part. part ≡ opening_part actor.now) }
+    {
+        Ok(ActorState {
+            role: actor.role,
+            script: Listed::from_slice(alloc, actor.script.as_slice())?,
+            item: 0,
+            attempt: 0,
+            deeds: ArrayVec::new(),
+            last: None,
+        })
+    }
+
     /// What the actor is.
     pub fn role(&self) -> Role
         ensures { result ≡ self.now.role }

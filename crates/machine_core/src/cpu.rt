@@ -45,9 +45,9 @@ fn is_running(guests: &[GuestSpec], guest: u8) -> bool
     }
 }
 
-// The ASID of a guest.
+/// The ASID of a guest.
 #[tactic(auto, unfolding(snp_model::specs::Opening::opening_context))]
-fn asid_of(guests: &[GuestSpec], guest: u8) -> u16
+pub fn asid_of(guests: &[GuestSpec], guest: u8) -> u16
     requires { 0 < guest }
     ensures { result ≡ (opening_contexts guests.now guest).asid }
 {

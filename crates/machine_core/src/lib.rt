@@ -2,7 +2,7 @@
 #![tactic(auto)]
 
 mod actor;
-// mod building;
+mod building;
 mod cpu;
 mod event;
 mod host;

@@ -8,6 +8,7 @@ pub mod ItemLines
 pub mod Journal
 pub mod Lines
 pub mod Locks
+pub mod Measurement
 pub mod NestedWalk
 pub mod Opening
 pub mod Operations
