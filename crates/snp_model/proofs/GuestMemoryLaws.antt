@@ -16,7 +16,7 @@ use Rattle.snp_model.specs.Step.{line_at, event_of, after}
 use Rattle.snp_model.specs.Opening.{frames_in, asid_of, words_from, opening, opening_part, opening_contexts}
 use Rattle.snp_model.specs.Run.{state_from, state_after, IsDefined}
 use Rattle.snp_model.specs.Sound.{Pairwise, IsSound, AsidsDiffer, IsPage, GpnsDiffer, IsActor, IsRole}
-use Rattle.snp_model.specs.GuestMemory.{Memory, next_use, used, opening_memory, memory_from, memory_after, IsLegalFrom, IsLegal}
+use Rattle.snp_model.specs.GuestMemory.{Memory, next_use, used, opening_memory, memory_from, memory_after, IsLegalFrom, IsLegal, AreLegal}
 use Rattle.snp_model.specs.Holders.{Archive, Core}
 use Rattle.snp_model.proofs.RunLaws.{after_keeps}
 use Rattle.snp_model.proofs.UseLaws.{AreWhole, RoleOwns, Fine, item_fine}
@@ -155,3 +155,6 @@ state_keeps_core c s archive sound guest some most =
 pub guest_memory_legal : (c : Scenario) (s : List ℕ) → IsSound c → IsDefined c s → (guest : ℕ) → 0 < guest → guest ≤ length c.guests → IsLegal c s guest
 guest_memory_legal c s sound defined guest some most =
     run_legal guest (asid_of c.guests guest) (λ _ _. None) (opening c) (opening_memory c guest) s (opening_keeps c guest (λ _ _. None) sound some most)
+
+pub guests_are_legal : (c : Scenario) (s : List ℕ) → IsSound c → IsDefined c s → AreLegal c s
+guests_are_legal c s sound defined guest some most = guest_memory_legal c s sound defined guest some most

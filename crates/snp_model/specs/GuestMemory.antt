@@ -1,5 +1,5 @@
 -- A guest's private memory as the guest may rely on it: what its own events find there and leave there. No rule here but the opening knows a frame, an entry of the RMP or a page table. This project's own.
-use Rattle.std.specs.Prelude.{◌≡◌, ℕ, zero, suc, ◌+◌, ◌==◌, Bool, true, ◌&&◌, ◌≢◌, bit_xor, if◌then◌else◌, List, [], ◌∷◌, map, slice_index_or, slice_set, Option, Some, None, unwrap_or}
+use Rattle.std.specs.Prelude.{◌≡◌, ℕ, zero, suc, ◌+◌, ◌<◌, ◌≤◌, ◌==◌, Bool, true, ◌&&◌, ◌≢◌, bit_xor, if◌then◌else◌, List, [], ◌∷◌, length, map, slice_index_or, slice_set, Option, Some, None, unwrap_or}
 use Rattle.std.specs.FinMap.{FinMap, empty, get, insert}
 use Rattle.std.specs.Option.{option_map}
 use Rattle.std.specs.Ordering.{nat_cmp}
@@ -133,3 +133,7 @@ memory_after scenario schedule guest = memory_from guest (opening scenario) (ope
 -- a guest's private accesses are one legal history of a memory of its own
 abbrev pub IsLegal : Scenario → List ℕ → ℕ → Type 0
 IsLegal scenario schedule guest = IsLegalFrom guest (opening scenario) (opening_memory scenario guest) schedule
+
+-- so for each declared guest
+abbrev pub AreLegal : Scenario → List ℕ → Type 0
+AreLegal scenario schedule = (guest : ℕ) → 0 < guest → guest ≤ length scenario.guests → IsLegal scenario schedule guest
