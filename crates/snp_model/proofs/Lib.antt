@@ -5,4 +5,5 @@ pub mod OpeningLaws
 pub mod OrderedLaws
 pub mod RoomLaws
 pub mod RunLaws
+pub mod SoundLaws
 pub mod UseLaws
