@@ -1,6 +1,6 @@
 -- Texts that are written, and read, piece by piece.
-use Rattle.std.proofs.Common.{◌≡◌, ℕ, List, [], ◌++◌, Option, Some, None, sym, ap, ◌∙◌, subst, refl, append_assoc, append-nil}
-use Rattle.snp_model.specs.Outside.{Adds, AddsPrefix, HasLeft, Takes}
+use Rattle.std.proofs.Common.{◌≡◌, ℕ, List, [], ◌++◌, Option, Some, None, Result, Ok, Err, sym, ap, ◌∙◌, subst, refl, append_assoc, append-nil}
+use Rattle.snp_model.specs.Outside.{Adds, AddsPrefix, HasLeft, Takes, Writes}
 
 -- adding nothing
 pub adds_none : (old : Option (List ℕ)) → Adds old old []
@@ -33,6 +33,11 @@ left_all old now whole h =
     let P : List ℕ → Type 0 = λ w. Adds old now w in
     subst P (sym (append-nil h.front) ∙ sym h.parts) h.adds
 
+pub left_done : (old now : Option (List ℕ)) (rest whole : List ℕ) → rest ≡ [] → HasLeft old now rest whole → Adds old now whole
+left_done old now rest whole e h =
+    let P : List ℕ → Type 0 = λ r. HasLeft old now r whole in
+    left_all old now whole (subst P e h)
+
 -- where a piece failed midway
 pub prefix_after : (old mid now : Option (List ℕ)) (rest whole piece more : List ℕ) → HasLeft old mid rest whole → AddsPrefix mid now piece → rest ≡ piece ++ more → AddsPrefix old now whole
 prefix_after old mid now rest whole piece more h p e =
@@ -45,6 +50,11 @@ prefix_after old mid now rest whole piece more h p e =
 -- where a piece failed at once
 pub prefix_none : (old mid now : Option (List ℕ)) (rest whole : List ℕ) → HasLeft old mid rest whole → Adds mid now [] → AddsPrefix old now whole
 prefix_none old mid now rest whole h a = record { rest = rest; left = left_after old mid now rest whole [] rest h a refl }
+
+-- the last piece
+pub writes_last : {T E : Type 0} (old mid now : Option (List ℕ)) (result : Result T E) (rest whole : List ℕ) → HasLeft old mid rest whole → Writes mid now result rest → Writes old now result whole
+writes_last old mid now (Ok x) rest whole h a = left_all old now whole (left_after old mid now rest whole rest [] h a (sym (append-nil rest)))
+writes_last old mid now (Err e) rest whole h p = prefix_after old mid now rest whole rest [] h p (sym (append-nil rest))
 
 -- taking nothing
 pub takes_none : (old : Option (List ℕ)) → Takes old old []

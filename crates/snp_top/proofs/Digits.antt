@@ -1,5 +1,5 @@
 -- Digits in base 16, from the last to the first.
-use Rattle.std.proofs.Common.{◌≡◌, ◌≢◌, ℕ, zero, suc, ◌+◌, ◌-◌, ◌*◌, ◌/◌, ◌%◌, ◌^◌, ◌<◌, false, cond, eqb, List, [], ◌∷◌, ◌++◌, length, get_or, take, drop, set, refl, ap, sym, ◌∙◌, arith, add-one, pow-suc}
+use Rattle.std.proofs.Common.{◌≡◌, ◌≢◌, ℕ, zero, suc, ◌+◌, ◌-◌, ◌*◌, ◌/◌, ◌%◌, ◌^◌, ◌<◌, false, cond, eqb, List, [], ◌∷◌, ◌++◌, length, get_or, take, drop, set, refl, ap, sym, ◌∙◌, arith, append_assoc, add-one, pow-suc}
 use Rattle.std.proofs.lemmas.Bool.Decides.{nat_tests}
 use Rattle.std.proofs.lemmas.List.{drop-set}
 use Rattle.std.specs.Fmt.{digits, digits_onto, digit_glyph}
@@ -49,3 +49,16 @@ hex_bytes_more (b ∷ bytes) zero h = refl
 hex_bytes_more (b ∷ bytes) (suc i) h =
     let e : suc i + 1 ≡ suc (i + 1) = omega arith in
     rw e (ap (λ (ds : List ℕ). digit_glyph false (b / 16) ∷ digit_glyph false (b % 16) ∷ ds) (hex_bytes_more bytes i (omega arith)))
+
+pub hex_bytes_none : hex_bytes [] ≡ []
+unfolding hex_bytes
+hex_bytes_none = refl
+
+-- one more byte of a buffer's text
+pub bytes_more : (front text bytes : List ℕ) (i high low : ℕ) → i < length bytes → high ≡ digit_glyph false (get_or bytes i 0 / 16) → low ≡ digit_glyph false (get_or bytes i 0 % 16) → text ≡ front ++ hex_bytes (take i bytes) → text ++ (high ∷ low ∷ []) ≡ front ++ hex_bytes (take (i + 1) bytes)
+bytes_more front text bytes i high low h eh el e =
+    ap (λ (t : List ℕ). t ++ (high ∷ low ∷ [])) e
+    ∙ append_assoc front (hex_bytes (take i bytes)) (high ∷ low ∷ [])
+    ∙ ap (λ (d : ℕ). front ++ (hex_bytes (take i bytes) ++ (d ∷ low ∷ []))) eh
+    ∙ ap (λ (d : ℕ). front ++ (hex_bytes (take i bytes) ++ (digit_glyph false (get_or bytes i 0 / 16) ∷ d ∷ []))) el
+    ∙ ap (λ (t : List ℕ). front ++ t) (sym (hex_bytes_more bytes i h))

@@ -12,3 +12,6 @@ pub use outside_port::{
 };
 pub use report_text::{write_line, write_report};
 pub use run_journal::Journal;
+
+#[cfg(test)]
+mod tests;

@@ -13,9 +13,10 @@ fn first_run(journal: &Journal, at: usize) -> (u32, usize)
     ensures run { let actors = actors_of journal.now.list in
         runs_of (drop at actors) ≡ (result.0, result.1) ∷ runs_of (drop (at + result.1) actors) }
 {
+    let count = journal.len();
     let (actor, _) = journal.get(at);
     let mut end = at + 1;
-    'run: while end < journal.len() {
+    'run: while end < count {
         let (next, _) = journal.get(end);
         if next != actor {
             return (actor, end - at);

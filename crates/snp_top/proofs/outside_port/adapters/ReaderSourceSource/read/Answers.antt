@@ -1,9 +1,8 @@
-use Rattle.std.proofs.Common.{◌≡◌, ℕ, ◌<◌, ◌≤◌, List, [], ◌++◌, length, take, Option, Some, None, Result, Ok, ap, ◌∙◌, sym, arith, length-append, length-take}
+use Rattle.std.proofs.Common.{◌≡◌, ◌↔◌, ℕ, ◌<◌, ◌≤◌, List, [], ◌++◌, length, take, Option, Some, None, IfSome, ap, ◌∙◌, arith, length-append, length-take}
 use Rattle.std.specs.Io.KnownBytes.{Consumes, IsAtEnd}
-use Rattle.snp_model.specs.Outside.{EndsWhereEmpty}
 use Rattle.snp_top.proofs.outside_port.adapters.ReaderSourceSource.read.Goals as goal
 
-ends_where_empty : {E : Type 0} (old now : Option (List ℕ)) (n : ℕ) (room buf : List ℕ) → length room ≡ length buf → n ≤ length buf → Consumes old now (take n buf) → (n ≡ 0 → 0 < length buf → IsAtEnd now) → EndsWhereEmpty {E = E} old (Ok n) room
+ends_where_empty : (old now : Option (List ℕ)) (n : ℕ) (room buf : List ℕ) → length room ≡ length buf → n ≤ length buf → Consumes old now (take n buf) → (n ≡ 0 → 0 < length buf → IsAtEnd now) → IfSome old (λ left. 0 < length room → ((n ≡ 0) ↔ (left ≡ [])))
 ends_where_empty None now n room buf same within takes end = tt
 ends_where_empty (Some left) None n room buf same within takes end = absurd takes
 ends_where_empty (Some left) (Some rest) n room buf same within takes end = λ some. (
