@@ -1,4 +1,4 @@
-use Rattle.std.proofs.Common.{◌≡◌, ◌-◌, ◌≤◌, length, vec_len}
+use Rattle.std.proofs.Common.{◌-◌, ◌≤◌, vec_len}
 use Rattle.snp_model.specs.Outside.{Takes}
 use Rattle.snp_top.proofs.input.read_text.Given as goal
 

@@ -1,4 +1,4 @@
-use Rattle.std.proofs.Common.{◌≡◌, List, ℕ, ◌++◌, take, sym, ap, ◌∙◌, arith, take-append-drop}
+use Rattle.std.proofs.Common.{List, ℕ, ◌++◌, take, sym, ap, ◌∙◌, arith, take-append-drop}
 use Rattle.snp_model.proofs.Adding.{left_after}
 use Rattle.snp_top.proofs.outside_port.sink.write_all.Goals as goal
 

@@ -1,4 +1,4 @@
-use Rattle.std.proofs.Common.{◌≡◌, ◌≢◌, ℕ, ◌+◌, ◌-◌, ◌/◌, List, length, drop, ap, ◌∙◌, arith, suc}
+use Rattle.std.proofs.Common.{◌≡◌, ◌≢◌, ℕ, ◌-◌, ◌/◌, List, ap, ◌∙◌, arith, suc}
 use Rattle.std.proofs.lemmas.List.{drop_all}
 use Rattle.snp_top.proofs.Digits.{onto, onto_all, fill_more, fill_last, room_more}
 use Rattle.snp_top.proofs.report_text.base16.fill.Goals as goal

@@ -1,4 +1,4 @@
-use Rattle.std.proofs.Common.{◌≡◌, ◌+◌, ◌<◌, ◌≤◌, ◌^◌, suc, length, drop, false}
+use Rattle.std.proofs.Common.{◌≡◌, ◌+◌, ◌<◌, ◌≤◌, ◌^◌, suc, drop, false}
 use Rattle.std.specs.Fmt.{digits}
 use Rattle.snp_top.proofs.Digits.{onto}
 use Rattle.snp_top.proofs.report_text.base16.fill.Given as goal

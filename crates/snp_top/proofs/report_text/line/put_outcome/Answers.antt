@@ -1,4 +1,4 @@
-use Rattle.std.proofs.Common.{ℕ, List, ◌++◌, take, sym, ap, ◌∙◌, codes, decimal}
+use Rattle.std.proofs.Common.{ℕ, ◌++◌, take, sym, ap, ◌∙◌, codes, decimal}
 use Rattle.snp_model.specs.EventText.{outcome_text}
 use Rattle.snp_top.proofs.report_text.line.put_outcome.Goals as goal
 
