@@ -19,9 +19,7 @@ fn check_line(rt: &impl Abort, deed: Deed, outcome: Option<Outcome>, text: &str)
 
 #[test]
 fn lines(rt: HostRuntime) {
-    let tag = [
-        0, 1, 0x10, 0xff, 0xab, 0, 0, 0, 0, 0, 0, 0, 0, 0, 0, 0x9e,
-    ];
+    let tag = [0, 1, 0x10, 0xff, 0xab, 0, 0, 0, 0, 0, 0, 0, 0, 0, 0, 0x9e];
     check_line(&rt, Deed::Begin, None, "7 2 3.1 begin");
     let nested = Deed::Nested {
         frame: 16,
@@ -70,10 +68,30 @@ fn lines(rt: HostRuntime) {
         frame: 300,
         index: 17,
     };
-    check_line(&rt, host, Some(Outcome::Loaded(9)), "7 2 3.1 host 300:17 load 0x9");
-    check_line(&rt, host, Some(Outcome::Opaque), "7 2 3.1 host 300:17 opaque");
-    check_line(&rt, host, Some(Outcome::Stored), "7 2 3.1 host 300:17 store");
-    check_line(&rt, host, Some(Outcome::Swapped(31)), "7 2 3.1 host 300:17 swap 0x1f");
+    check_line(
+        &rt,
+        host,
+        Some(Outcome::Loaded(9)),
+        "7 2 3.1 host 300:17 load 0x9",
+    );
+    check_line(
+        &rt,
+        host,
+        Some(Outcome::Opaque),
+        "7 2 3.1 host 300:17 opaque",
+    );
+    check_line(
+        &rt,
+        host,
+        Some(Outcome::Stored),
+        "7 2 3.1 host 300:17 store",
+    );
+    check_line(
+        &rt,
+        host,
+        Some(Outcome::Swapped(31)),
+        "7 2 3.1 host 300:17 swap 0x1f",
+    );
     let lock = Deed::Lock {
         frame: 18_446_744_073_709_551_615,
     };
@@ -86,22 +104,62 @@ fn lines(rt: HostRuntime) {
         gpn: 1024,
         size: PageSize::Large,
     };
-    check_line(&rt, large, Some(Outcome::Status(0)), "7 2 3.1 commit 512 0x400 2m rc 0");
+    check_line(
+        &rt,
+        large,
+        Some(Outcome::Status(0)),
+        "7 2 3.1 commit 512 0x400 2m rc 0",
+    );
     let small = Deed::Commit {
         frame: 1,
         gpn: 2,
         size: PageSize::Small,
     };
-    check_line(&rt, small, Some(Outcome::Carry(true)), "7 2 3.1 commit 1 0x2 4k rc 0 cf 1");
-    check_line(&rt, small, Some(Outcome::Carry(false)), "7 2 3.1 commit 1 0x2 4k rc 0 cf 0");
+    check_line(
+        &rt,
+        small,
+        Some(Outcome::Carry(true)),
+        "7 2 3.1 commit 1 0x2 4k rc 0 cf 1",
+    );
+    check_line(
+        &rt,
+        small,
+        Some(Outcome::Carry(false)),
+        "7 2 3.1 commit 1 0x2 4k rc 0 cf 0",
+    );
     let commit = Deed::CommitContext { guest: 1 };
-    check_line(&rt, commit, Some(Outcome::Firmware(0x1d)), "7 2 3.1 commitg 1 fw 0x1d");
+    check_line(
+        &rt,
+        commit,
+        Some(Outcome::Firmware(0x1d)),
+        "7 2 3.1 commitg 1 fw 0x1d",
+    );
     check_line(&rt, Deed::Control, Some(Outcome::Next), "7 2 3.1 skip next");
-    check_line(&rt, Deed::Control, Some(Outcome::Skipped(8192)), "7 2 3.1 skip skipped 8192");
+    check_line(
+        &rt,
+        Deed::Control,
+        Some(Outcome::Skipped(8192)),
+        "7 2 3.1 skip skipped 8192",
+    );
     check_line(&rt, Deed::Begin, Some(Outcome::Gp), "7 2 3.1 begin gp");
-    check_line(&rt, Deed::Begin, Some(Outcome::Offline), "7 2 3.1 begin offline");
-    check_line(&rt, Deed::Begin, Some(Outcome::Pf(3)), "7 2 3.1 begin pf 0x3");
-    check_line(&rt, Deed::Begin, Some(Outcome::Vc(0x404)), "7 2 3.1 begin vc 0x404");
+    check_line(
+        &rt,
+        Deed::Begin,
+        Some(Outcome::Offline),
+        "7 2 3.1 begin offline",
+    );
+    check_line(
+        &rt,
+        Deed::Begin,
+        Some(Outcome::Pf(3)),
+        "7 2 3.1 begin pf 0x3",
+    );
+    check_line(
+        &rt,
+        Deed::Begin,
+        Some(Outcome::Vc(0x404)),
+        "7 2 3.1 begin vc 0x404",
+    );
     let held = Some(Outcome::StatusInUse { holder: 4 });
     check_line(&rt, context, held, "7 2 3.1 lockg 8 rc 3 by 4");
     let held = Some(Outcome::FirmwareInUse { holder: 5 });
@@ -118,7 +176,7 @@ fn lines(rt: HostRuntime) {
     );
 }
 
-// The journal of 17 runs of two events each but the last, and the guests.
+// Writes the report of 18 events in 17 runs, and of two guests.
 fn small_report(rt: &HostRuntime, sink: &mut MemorySink) -> Result<bool, Fail> {
     let alloc = rt.alloc();
     let mut journal = Journal::with_room(alloc, 18)?;
@@ -128,15 +186,23 @@ fn small_report(rt: &HostRuntime, sink: &mut MemorySink) -> Result<bool, Fail> {
         deed: Deed::Control,
         outcome: Some(Outcome::Next),
     };
-    for actor in 0..17 {
-        if journal.len() < 17 {
-            journal.push(1 + actor % 3, event);
-        }
+    for k in 0..17 {
+        journal.push(1 + k % 3, event);
     }
     journal.push(2, event);
     let guests = vec![in alloc;
-        GuestLine { guest: 1, state: GuestState::Running, pages: 0, digest: [7; 48] },
-        GuestLine { guest: 2, state: GuestState::Launching, pages: 1, digest: [0xc5; 48] },
+        GuestLine {
+            guest: 1,
+            state: GuestState::Running,
+            pages: 0,
+            digest: [7; 48]
+        },
+        GuestLine {
+            guest: 2,
+            state: GuestState::Launching,
+            pages: 1,
+            digest: [0xc5; 48]
+        },
     ]?;
     Ok(write_report(&journal, &guests, sink).is_ok())
 }
@@ -176,7 +242,7 @@ fn reports(rt: HostRuntime) -> Result<(), Fail> {
         let mut sink = MemorySink::with_room(alloc, 2048, failing)?;
         assert!(rt; !small_report(&rt, &mut sink)?);
         let lines = sink.bytes().iter().filter(|byte| **byte == b'\n').count();
-        assert!(rt; lines as u32 == k);
+        assert!(rt; lines == k as usize);
         assert!(rt; REPORT.as_bytes().starts_with(sink.bytes()));
     }
     let mut sink = MemorySink::with_room(alloc, 2048, vec![in alloc; 24]?)?;

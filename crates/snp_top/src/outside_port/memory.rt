@@ -100,7 +100,11 @@ impl Model for MemorySink {
 
 impl MemorySink {
     /// An empty sink with room for so many bytes, for which it takes memory.
-    pub fn with_room(alloc: Global, room: usize, failing: Vec<u32>) -> Result<MemorySink, AllocError>
+    pub fn with_room(
+        alloc: Global,
+        room: usize,
+        failing: Vec<u32>,
+    ) -> Result<MemorySink, AllocError>
         ensures { IfOk result (λ sink. sink ≡ record { bytes = []; room = room; failing = failing.items; calls = 0; faults = 0 }) }
     {
         Ok(MemorySink {

@@ -120,14 +120,7 @@ fn put_read(out: &mut [u8], at: usize, value: Option<u64>) -> usize
 }
 
 #[tactic(auto, unfolding(snp_model::specs::EventText::deed_text, snp_model::specs::EventText::privacy_text))]
-fn put_access(
-    out: &mut [u8],
-    at: usize,
-    gpn: u64,
-    index: u16,
-    frame: u32,
-    private: bool,
-) -> usize
+fn put_access(out: &mut [u8], at: usize, gpn: u64, index: u16, frame: u32, private: bool) -> usize
     requires { at + 83 ≤ length out.old }
     ensures end { result ≤ at + 83 }
     ensures text { take result out.new ≡ take at out.old ++ deed_text (Deed.Access gpn index frame private) }

@@ -6,9 +6,9 @@ ends_where_empty : (old now : Option (List ℕ)) (n : ℕ) (room buf : List ℕ)
 ends_where_empty None now n room buf same within takes end = tt
 ends_where_empty (Some left) None n room buf same within takes end = absurd takes
 ends_where_empty (Some left) (Some rest) n room buf same within takes end = λ some. (
-    λ zero. let e : rest ≡ [] = end zero (omega arith) in takes ∙ ap (λ (m : ℕ). take m buf ++ rest) zero ∙ e,
-    λ none. let e : length left ≡ 0 = ap length none in omega (arith, ap length takes, length-append (take n buf) rest, length-take n buf),
-  )
+  λ zero. let e : rest ≡ [] = end zero (omega arith) in takes ∙ ap (λ (m : ℕ). take m buf ++ rest) zero ∙ e,
+  λ none. let e : length left ≡ 0 = ap length none in omega (arith, ap length takes, length-append (take n buf) rest, length-take n buf),
+)
 
 pub returns-in-Ok-clause-end : goal.returns-in-Ok-clause-end
 returns-in-Ok-clause-end g c = ends_where_empty _ _ c.in-Ok.count c.args.buf.now c.read.new.buf (omega arith) (omega (arith, c.in-Ok.ensures.bound)) c.in-Ok.ensures.bytes.0 c.in-Ok.ensures.bytes.1
