@@ -10,7 +10,7 @@ pub use input::{InputFault, MOST_BYTES, read_text};
 pub use outside_port::{
     Failed, MemorySink, MemorySource, ReaderSource, Sink, SinkFault, Source, WriterSink, write_all,
 };
-pub use report_text::{write_line, write_report};
+pub use report_text::{runs_are_longest, write_line, write_report};
 pub use run_journal::Journal;
 
 #[cfg(test)]
