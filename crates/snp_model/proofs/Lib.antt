@@ -1,3 +1,4 @@
+pub mod Adding
 pub mod CoreLaws
 pub mod GuestMemoryLaws
 pub mod MemoryLaws
