@@ -2,3 +2,4 @@ pub mod Digits
 pub mod Lines
 pub mod Pieces
 pub mod Runs
+pub mod ScheduleLaws

@@ -5,6 +5,7 @@ pub mod input;
 pub mod outside_port;
 pub mod report_text;
 pub mod run_journal;
+pub mod schedule;
 
 #[cfg(test)]
 mod tests;
