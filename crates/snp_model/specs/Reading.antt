@@ -6,11 +6,12 @@ use Rattle.snp_model.specs.declared.reading.Quantity.{Quantity}
 use Rattle.snp_model.specs.declared.reading.Quantity.TheVariants.{Bytes, Regions, Guests, Actors, Attempts, Order}
 use Rattle.snp_model.specs.declared.scenario.Scenario.{Scenario}
 use Rattle.snp_model.specs.declared.scenario.Actor.{Actor}
+use Rattle.snp_model.specs.declared.scenario.Role.{Role}
 use Rattle.snp_model.specs.declared.scenario.Turn.{Turn}
 use Rattle.snp_model.specs.declared.item.Line.{Line}
 use Rattle.snp_model.specs.Lines.{◌>>=◌, ◌>>◌, parts_at, words_of, word, is_plain, is_row}
 use Rattle.snp_model.specs.ItemLines.{item_words}
-use Rattle.snp_model.specs.ScenarioLines.{frames_of, has_no, before_orders, before_actors, before_words, before_pages, first_scenario, version_row, regions_row, guest_row, page_row, word_row, cpu_row, host_row, with_line, order_row}
+use Rattle.snp_model.specs.ScenarioLines.{frames_of, has_no, before_orders, before_actors, before_words, before_pages, first_scenario, version_row, regions_row, guest_row, page_row, word_row, idle, cpu_row, host_row, with_line, order_row}
 
 -- the actors that the turns name, each as often as its turn says
 unfoldable pub turns_spell : List Turn → List ℕ
@@ -71,10 +72,10 @@ unfoldable pub add_word : Scenario → List (List ℕ) → Result Made Fault
 add_word c ws = do
   word ← by_rule (word_row c ws)
   Ok (reading (record c { words = c.words ++ word ∷ [] }))
-unfoldable pub add_actor : Scenario → Result Actor Reason → Result Made Fault
+unfoldable pub add_actor : Scenario → Result Role Reason → Result Made Fault
 add_actor c row = do
-  actor ← by_rule row
-  within Actors 32 (length c.actors + 1) (record c { actors = c.actors ++ actor ∷ [] })
+  role ← by_rule row
+  within Actors 32 (length c.actors + 1) (record c { actors = c.actors ++ idle role ∷ [] })
 unfoldable pub add_line : Scenario → Actor → Line → Result Made Fault
 add_line c last line =
     let next : Scenario = record c { actors = with_line c.actors line last } in
