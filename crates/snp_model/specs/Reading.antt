@@ -1,5 +1,5 @@
 -- What a scenario text says: which lines it may have, what they make, and the first thing that is wrong. The text is this project's own.
-use Rattle.std.specs.Prelude.{◌≡◌, ℕ, ◌+◌, ◌-◌, ◌<◌, ◌≤◌, ◌⊎◌, ◌==◌, nat_le, Bool, not, ◌&&◌, ◌||◌, if◌then◌else◌, List, [], ◌∷◌, ◌++◌, length, replicate, slice_get, slice_index, Option, Some, None, Result, Ok, Err, codes, bytes_eq}
+use Rattle.std.specs.Prelude.{◌≡◌, ℕ, ◌+◌, ◌-◌, ◌<◌, ◌≤◌, ◌⊎◌, ◌==◌, nat_le, Bool, not, ◌&&◌, ◌||◌, if◌then◌else◌, List, [], ◌∷◌, ◌++◌, length, replicate, slice_get, slice_index, Option, Some, None, Result, Ok, Err, codes}
 use Rattle.snp_model.specs.declared.reading.Reason.{Reason}
 use Rattle.snp_model.specs.declared.reading.Reason.TheVariants.{Cut, Form, End, After}
 use Rattle.snp_model.specs.declared.reading.Quantity.{Quantity}
@@ -11,7 +11,7 @@ use Rattle.snp_model.specs.declared.scenario.Turn.{Turn}
 use Rattle.snp_model.specs.declared.item.Line.{Line}
 use Rattle.snp_model.specs.Lines.{◌>>=◌, ◌>>◌, parts_at, words_of, word, is_plain, is_row}
 use Rattle.snp_model.specs.ItemLines.{item_words}
-use Rattle.snp_model.specs.ScenarioLines.{frames_of, has_no, before_orders, before_actors, before_words, before_pages, first_scenario, version_row, regions_row, guest_row, page_row, word_row, idle, cpu_row, host_row, with_line, order_row}
+use Rattle.snp_model.specs.ScenarioLines.{frames_of, has_no, before_orders, before_actors, before_words, before_pages, first_scenario, version_row, regions_row, guest_row, page_row, word_row, idle, cpu_row, host_row, with_line, is_order_row, order_row}
 
 -- the actors that the turns name, each as often as its turn says
 unfoldable pub turns_spell : List Turn → List ℕ
@@ -101,7 +101,7 @@ add_words c ws =
     else if is_row ws (codes "word") 4 && before_actors c then add_word c ws
     else if is_row ws (codes "actor") 9 && before_orders c then add_actor c (cpu_row c ws)
     else if is_row ws (codes "actor") 3 && before_orders c then add_actor c (host_row c ws)
-    else if nat_le 2 (length ws) && bytes_eq (word ws 0) (codes "order") && not (c.regions == 0) then add_order c ws
+    else if is_order_row ws && not (c.regions == 0) then add_order c ws
     else if is_row ws (codes "end") 1 && not (c.regions == 0) then Ok (closed c)
     else add_item c ws
 

@@ -1,5 +1,5 @@
 -- The lines of the scenario text, a row for each form, with the reason that a line is refused with. The text is this project's own.
-use Rattle.std.specs.Prelude.{ℕ, ◌+◌, ◌-◌, ◌*◌, ◌^◌, ◌==◌, nat_lt, nat_le, Bool, true, false, not, ◌&&◌, ◌||◌, if◌then◌else◌, List, [], ◌∷◌, ◌++◌, length, map, drop, take, take, slice_index, slice_get, Option, Some, None, Result, Ok, Err, codes, bytes_eq}
+use Rattle.std.specs.Prelude.{ℕ, ◌+◌, ◌-◌, ◌*◌, ◌^◌, ◌==◌, nat_lt, nat_le, Bool, true, false, not, ◌&&◌, ◌||◌, if◌then◌else◌, List, [], ◌∷◌, ◌++◌, length, map, drop, take, slice_index, slice_get, Option, Some, None, Result, Ok, Err, codes, bytes_eq}
 use Rattle.std.specs.List.{list_all, list_any, range_with_len}
 use Rattle.snp_model.specs.declared.reading.Reason.{Reason}
 use Rattle.snp_model.specs.declared.reading.Reason.TheVariants.{Form, Range, Guest, Repeat}
@@ -172,6 +172,10 @@ turn_parts w (Some cut) = do
   turn_from actor count
 unfoldable pub turn_of : List ℕ → Result Turn Reason
 turn_of w = turn_parts w (cut_at 42 w)
+
+-- whether the first word is `order`, and runs follow
+abbrev pub is_order_row : List (List ℕ) → Bool
+is_order_row ws = nat_le 2 (length ws) && bytes_eq (word ws 0) (codes "order")
 
 -- `order R..`: the runs of these words behind those of the words before them
 unfoldable pub turns_after : List Turn → List (List ℕ) → Result (List Turn) Reason

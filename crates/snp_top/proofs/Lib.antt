@@ -1,3 +1,6 @@
 pub mod PartsLaws
 pub mod NumberLaws
 pub mod WordsLaws
+pub mod ReadingLaws
+pub mod FindingLaws
+pub mod StepLaws

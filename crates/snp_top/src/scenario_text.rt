@@ -2,6 +2,7 @@
 
 mod draft;
 mod fault;
+mod reading;
 mod rows;
 mod steps;
 

@@ -1,5 +1,5 @@
 ghost use Rattle.std.specs.Prelude.{◌≡◌, ◌≤◌, length};
-ghost use Rattle.snp_model.specs.Reading.{attempts_of, turns_count};
+ghost use Rattle.snp_model.specs.Reading.{actors_attempts, turns_count};
 
 use snp_model::{Listed, Scenario};
 use std::alloc::Global;
@@ -16,7 +16,7 @@ pub struct Draft {
     ghost regions_most: { scenario.regions ≤ 16 },
     ghost guests_most: { length scenario.guests ≤ 8 },
     ghost actors_most: { length scenario.actors ≤ 32 },
-    ghost attempts_counted: { attempts ≡ attempts_of scenario },
+    ghost attempts_counted: { attempts ≡ actors_attempts scenario.actors },
     ghost attempts_most: { attempts ≤ 8192 },
     ghost turns_counted: { turns ≡ turns_count scenario.order },
     ghost turns_most: { turns ≤ 262144 },

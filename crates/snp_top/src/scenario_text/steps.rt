@@ -3,7 +3,7 @@ ghost use Rattle.snp_model.specs.Lines.{word};
 ghost use Rattle.snp_model.specs.ScenarioLines.{idle, with_line, first_scenario, turns_after, order_row, frames_of};
 ghost use Rattle.snp_model.specs.ItemLines.{item_words};
 ghost use Rattle.snp_model.specs.Reading.{
-    turns_count, attempts_of, by_rule, within, add_regions, add_guest, add_page, add_word, add_actor, add_line, add_item, add_item_of, add_order
+    actors_attempts, turns_count, attempts_of, by_rule, within, add_regions, add_guest, add_page, add_word, add_actor, add_line, add_item, add_item_of, add_order
 };
 ghost use Rattle.snp_top.specs.Steps.{Gives, GivesTurns};
 
@@ -80,6 +80,7 @@ fn count_turns(turns: &[Turn]) -> u64
 
 impl Draft {
     /// The scenario of the line `snp 1`.
+    #[tactic(auto, unfolding(snp_model::specs::Reading::actors_attempts, snp_model::specs::Reading::turns_count))]
     pub fn new(alloc: Global) -> Draft
         ensures { result.scenario ≡ first_scenario }
     {
@@ -155,7 +156,7 @@ impl Draft {
     }
 
     /// `actor ..`, of which `role` is what its row says.
-    #[tactic(auto, unfolding(snp_model::specs::Reading::add_actor))]
+    #[tactic(auto, using(snp_model::proofs::AttemptLaws::attempts_idle), unfolding(snp_model::specs::Reading::add_actor))]
     pub fn add_actor(mut self, alloc: Global, role: Result<Role, Reason>) -> Result<Made, LineFault>
         ensures { Gives result (add_actor self.scenario role) }
     {
@@ -172,7 +173,7 @@ impl Draft {
     }
 
     /// An item of the last actor.
-    #[tactic(auto, unfolding(snp_model::specs::Reading::add_item, snp_model::specs::Reading::add_line))]
+    #[tactic(auto, using(snp_model::proofs::AttemptLaws::attempts_line), unfolding(snp_model::specs::Reading::add_item, snp_model::specs::Reading::add_line, snp_model::specs::Reading::attempts_of))]
     pub fn add_item(mut self, words: &Words<'_>) -> Result<Made, LineFault>
         ensures { Gives result (add_item self.scenario words.now) }
     {
@@ -198,7 +199,7 @@ impl Draft {
     }
 
     /// `order R..`
-    #[tactic(auto, unfolding(snp_model::specs::Reading::add_order))]
+    #[tactic(auto, using(snp_model::proofs::AttemptLaws::turns_append), unfolding(snp_model::specs::Reading::add_order))]
     pub fn add_order(mut self, alloc: Global, words: &Words<'_>) -> Result<Made, LineFault>
         ensures { Gives result (add_order self.scenario words.now) }
     {
