@@ -46,3 +46,14 @@ FailsAt (faults.Memory error) answer = Unit {0}
 abbrev pub Says : Result Scenario ScenarioFault → Result Scenario (ℕ × Fault) → Type 0
 Says (Ok scenario) answer = answer ≡ Ok scenario
 Says (Err fault) answer = FailsAt fault answer
+
+-- want of memory
+abbrev pub IsMemory : ScenarioFault → Type 0
+IsMemory (faults.Memory error) = Unit {0}
+IsMemory fault = ⊥
+
+-- a fault of a line, at its number
+abbrev pub SaysFault : ℕ → LineFault → ScenarioFault → Type 0
+SaysFault line (Refused reason) fault = fault ≡ faults.Refused line reason
+SaysFault line (Limit quantity count) fault = fault ≡ faults.Limit quantity count
+SaysFault line Memory fault = IsMemory fault
