@@ -2,8 +2,6 @@
 use Rattle.std.proofs.Common.{◌≡◌, ℕ, ◌+◌, ◌<◌, ◌≤◌, nat_le, Bool, true, false, cond, ◌⊎◌, List, [], ◌∷◌, ◌++◌, length, Result, Ok, Err, Some, None, refl, sym, ap, subst, ◌∙◌, inl, inr, append_assoc, arith}
 use Rattle.std.proofs.lemmas.Bool.Decides.{nat_tests}
 use Rattle.std.proofs.lemmas.Bool.{cases_lt}
-use Rattle.std.proofs.lemmas.List.Splits.{length-slice_split}
-use Rattle.std.specs.Prelude.{◌==◌}
 use Rattle.snp_model.specs.declared.scenario.Scenario.{Scenario}
 use Rattle.snp_model.specs.declared.reading.Reason.{Reason}
 use Rattle.snp_model.specs.declared.reading.Reason.TheVariants.{Cut, End}
@@ -15,15 +13,8 @@ use Rattle.snp_top.specs.declared.scenario_text.fault.ScenarioFault.TheVariants 
 use Rattle.snp_top.specs.Texts.{at_line, end_of, read_parts, read_text}
 use Rattle.snp_top.specs.Steps.{Says}
 use Rattle.snp_top.specs.Answers.{Answers, Finding, says, wrong, too_much, Finds, OneAnswer, SomeAnswer}
+use Rattle.snp_top.proofs.TextLaws.{some_part}
 use Rattle.snp_top.proofs.ReadingLaws.{Stops, Ends, Closes, Said, read_parts-said}
-
--- bytes have at least one part
-some_part : (c : ℕ) (bytes : List ℕ) → (part : List ℕ) × (parts : List (List ℕ)) × (parts_at c bytes ≡ part ∷ parts)
-some_part c bytes = of_parts (parts_at c bytes) refl
-  where
-    of_parts : (ps : List (List ℕ)) → parts_at c bytes ≡ ps → (part : List ℕ) × (parts : List (List ℕ)) × (parts_at c bytes ≡ part ∷ parts)
-    of_parts [] e = absurd (omega (arith, ap length e, length-slice_split (λ b. b == c) bytes))
-    of_parts (part ∷ parts) e = (part, parts, e)
 
 -- what is read of a text is said by its parts
 read_text-said : (text : List ℕ) → Said 1 nothing (parts_at 10 text) (read_text text)
@@ -31,7 +22,7 @@ unfolding read_text
 read_text-said text =
     let s = some_part 10 text in
     let P : List (List ℕ) → Type 0 = λ ps. Said 1 nothing ps (read_parts 1 nothing ps) in
-    subst P (sym s.2) (read_parts-said 1 nothing s.0 s.1)
+    subst P (sym s.is) (read_parts-said 1 nothing s.part s.parts)
 
 -- lines that fit are passed
 passed : (lines : List (List ℕ)) (n : ℕ) (made middle : Made) (part : List ℕ) (parts : List (List ℕ)) (k : ℕ) → k ≡ length lines + n → Makes made lines middle → read_parts n made (lines ++ part ∷ parts) ≡ read_parts k middle (part ∷ parts)
