@@ -2,9 +2,12 @@
 
 mod draft;
 mod fault;
+pub mod laws;
 mod reading;
 mod rows;
 mod steps;
+#[cfg(test)]
+mod tests;
 mod text;
 
 pub use fault::ScenarioFault;
