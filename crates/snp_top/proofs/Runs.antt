@@ -45,7 +45,7 @@ longest_after actor count (next ∷ actors) some =
       | inl same ↦ subst P (sym (run_goes_on actor count next (next ∷ actors) actors refl same)) (longest_after actor (count + 1) actors (omega arith))
       | inr differs ↦
           subst P (sym (run_ends actor count next (next ∷ actors) actors refl differs ∙ ap (λ (runs : List (ℕ × ℕ)). (actor, count) ∷ runs) (run_begins next actors)))
-              (some, another_after actor next 1 actors differs, longest_after next 1 actors (omega arith))
+          (some, another_after actor next 1 actors differs, longest_after next 1 actors (omega arith))
     ]
 
 pub runs_longest : (actors : List ℕ) → AreLongest (runs_of actors)

@@ -275,3 +275,16 @@ fn pieces(rt: HostRuntime) -> Result<(), Fail> {
     assert!(rt; read_text(alloc, &mut source).err() == Some(InputFault::TooLong));
     Ok(())
 }
+
+// The adapters over a reader and a writer of std.
+#[test]
+fn adapters(rt: HostRuntime) -> Result<(), Fail> {
+    let alloc = rt.alloc();
+    let mut source = ReaderSource::new(b"some bytes".as_slice());
+    let text = read_text(alloc, &mut source)?;
+    assert!(rt; text.as_slice() == b"some bytes".as_slice());
+    let mut sink = WriterSink::new(Vec::new(alloc));
+    assert!(rt; write_all(&mut sink, text.as_slice()).is_ok());
+    assert!(rt; sink.flush().is_ok());
+    Ok(())
+}

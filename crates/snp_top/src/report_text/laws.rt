@@ -7,5 +7,4 @@ ghost use Rattle.snp_model.specs.Report.{actors_in, AreLongest, runs_of};
 pub fn runs_are_longest()
     ensures same { (actors : List ℕ) → actors_in (runs_of actors) ≡ actors }
     ensures longest { (actors : List ℕ) → AreLongest (runs_of actors) }
-{
-}
+{}
