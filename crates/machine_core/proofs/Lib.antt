@@ -1,3 +1,5 @@
 pub mod BuildingLaws
 pub mod MachineLaws
+pub mod OpeningLaws
+pub mod Pending
 pub mod WalkLaws

@@ -1,13 +1,17 @@
-ghost use Rattle.std.specs.Prelude.{◌≡◌, ℕ};
+ghost use Rattle.std.specs.Prelude.{◌≡◌, ℕ, IfOk};
+ghost use Rattle.snp_model.specs.Opening.{opening};
+ghost use Rattle.snp_model.specs.Reading.{Valid};
 ghost use Rattle.std.specs.Bool.{OnTrue, OnFalse};
 ghost use Rattle.snp_model.specs.State.{IsUnfinished};
 ghost use Rattle.snp_model.specs.Step.{event_of, after};
 ghost use Rattle.machine_core.specs.Machine.{state_of};
 
 use crate::actor::ActorState;
+use crate::building::{make_actors, set_pages, set_words};
 use crate::event::next_event;
 use crate::memory::Memory;
-use snp_model::{Event, GuestSpec, Listed};
+use snp_model::{Event, GuestSpec, Listed, Scenario};
+use std::alloc::{AllocError, Global};
 use std::marker::Model;
 
 /// A machine: memory, its guests, and its actors with their scripts. Contracts see the flat state that
@@ -30,6 +34,24 @@ impl Model for Machine {
 }
 
 impl Machine {
+    /// The machine at the opening of a scenario. Takes all memory that any later event needs.
+    pub fn build(alloc: Global, scenario: &Scenario) -> Result<Machine, AllocError>
+        requires { Valid scenario.now }
+        ensures { IfOk result (λ m. state_of m ≡ opening scenario.now) }
+    {
+        let guests = scenario.guests.as_slice();
+        let mut memory = Memory::zeroed(alloc, 512 * scenario.regions)?;
+        set_pages(&mut memory, guests, scenario.pages.as_slice());
+        set_words(&mut memory, scenario.words.as_slice());
+        let actors = make_actors(alloc, scenario.actors.as_slice())?;
+        let guests = Listed::from_slice(alloc, guests)?;
+        Ok(Machine {
+            memory,
+            guests,
+            actors,
+        })
+    }
+
     /// Makes one event of an actor, numbered from 1. Takes no memory.
     pub fn step(&mut self, actor: u32) -> Event
         requires { IsUnfinished (state_of self.old) actor }

@@ -2,6 +2,8 @@ pub mod Attempts
 pub mod EventText
 pub mod Facts
 pub mod Faults
+pub mod GuestMemory
+pub mod Holders
 pub mod ItemLines
 pub mod Journal
 pub mod Lines

@@ -57,6 +57,7 @@ is_row ws name count = (length ws == count) && bytes_eq (word ws 0) name
 -- whether a byte is a digit: `0` to `9`, and `a` to `f` in hex
 abbrev pub is_decimal_digit : ℕ → Bool
 is_decimal_digit b = nat_le 48 b && nat_le b 57
+
 abbrev pub is_hex_digit : ℕ → Bool
 is_hex_digit b = is_decimal_digit b || (nat_le 97 b && nat_le b 102)
 

@@ -17,6 +17,7 @@ use Rattle.snp_model.specs.ScenarioLines.{frames_of, has_no, before_orders, befo
 unfoldable pub turns_spell : List Turn → List ℕ
 turns_spell [] = []
 turns_spell (turn ∷ turns) = replicate turn.count turn.actor ++ turns_spell turns
+
 unfoldable pub order_of : Scenario → List ℕ
 order_of c = turns_spell c.order
 
@@ -50,33 +51,41 @@ unfoldable pub add_regions : Scenario → List (List ℕ) → Result Made Fault
 add_regions c ws = do
   regions ← by_rule (regions_row ws)
   within Regions 16 regions (record c { regions = regions })
+
 unfoldable pub add_guest : Scenario → List (List ℕ) → Result Made Fault
 add_guest c ws = do
   guest ← by_rule (guest_row c ws)
   within Guests 8 (length c.guests + 1) (record c { guests = c.guests ++ guest ∷ [] })
+
 unfoldable pub add_page : Scenario → List (List ℕ) → Result Made Fault
 add_page c ws = do
   page ← by_rule (page_row c ws)
   Ok (reading (record c { pages = c.pages ++ page ∷ [] }))
+
 unfoldable pub add_word : Scenario → List (List ℕ) → Result Made Fault
 add_word c ws = do
   word ← by_rule (word_row c ws)
   Ok (reading (record c { words = c.words ++ word ∷ [] }))
+
 unfoldable pub add_actor : Scenario → Result Actor Reason → Result Made Fault
 add_actor c row = do
   actor ← by_rule row
   within Actors 32 (length c.actors + 1) (record c { actors = c.actors ++ actor ∷ [] })
+
 unfoldable pub add_line : Scenario → Actor → Line → Result Made Fault
 add_line c last line =
     let next : Scenario = record c { actors = with_line c.actors line last } in
     within Attempts 8192 (attempts_of next) next
+
 abbrev pub add_item_of : Scenario → List (List ℕ) → Option Actor → Result Made Fault
 add_item_of c ws None = Err (refused Form)
 add_item_of c ws (Some last) = do
   line ← by_rule (item_words last.role (frames_of c) ws)
   add_line c last line
+
 unfoldable pub add_item : Scenario → List (List ℕ) → Result Made Fault
 add_item c ws = if has_no c.order then add_item_of c ws (slice_get c.actors (length c.actors - 1)) else Err (refused Form)
+
 unfoldable pub add_order : Scenario → List (List ℕ) → Result Made Fault
 add_order c ws = do
   turns ← by_rule (order_row ws)

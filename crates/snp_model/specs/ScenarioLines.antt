@@ -24,12 +24,16 @@ frames_of c = 512 * c.regions
 -- whether nothing stands yet that comes after the orders, actors, words, pages or guests, in this order
 abbrev pub has_no : {A : Type 0} → List A → Bool
 has_no xs = length xs == 0
+
 abbrev pub before_orders : Scenario → Bool
 before_orders c = not (c.regions == 0) && has_no c.order
+
 abbrev pub before_actors : Scenario → Bool
 before_actors c = before_orders c && has_no c.actors
+
 abbrev pub before_words : Scenario → Bool
 before_words c = before_actors c && has_no c.words
+
 abbrev pub before_pages : Scenario → Bool
 before_pages c = before_words c && has_no c.pages
 
@@ -56,6 +60,7 @@ opening w = if bytes_eq w (codes "opened") then Ok true else Err Form
 -- a key is 64 digits: byte k is spelled by the digits 2k and 2k + 1
 abbrev pub key_byte : List ℕ → ℕ → ℕ
 key_byte w k = 16 * digit_value (slice_index w (2 * k)) + digit_value (slice_index w (2 * k + 1))
+
 unfoldable pub key_of : List ℕ → Result (List ℕ) Reason
 key_of w =
     if (length w == 64) && list_all is_hex_digit w then Ok (map (key_byte w) (range_with_len 0 32)) else Err Form
@@ -81,9 +86,11 @@ guest_row c ws = do
 -- whether a guest is declared, and opened
 abbrev pub is_declared : List GuestSpec → ℕ → Bool
 is_declared guests guest = nat_lt 0 guest && nat_le guest (length guests)
+
 abbrev pub opened_of : Option GuestSpec → Bool
 opened_of (Some guest) = guest.opened
 opened_of None = false
+
 unfoldable pub is_opened : List GuestSpec → ℕ → Bool
 is_opened guests guest = nat_lt 0 guest && opened_of (slice_get guests (guest - 1))
 
@@ -170,6 +177,7 @@ turn_parts w (Some cut) = do
   actor ← decimal cut.0
   count ← decimal cut.1
   turn_from actor count
+
 unfoldable pub turn_of : List ℕ → Result Turn Reason
 turn_of w = turn_parts w (cut_at 42 w)
 
@@ -179,5 +187,6 @@ turns_after turns [] = Ok turns
 turns_after turns (w ∷ ws) = do
   turn ← turn_of w
   turns_after (turns ++ turn ∷ []) ws
+
 unfoldable pub order_row : List (List ℕ) → Result (List Turn) Reason
 order_row ws = turns_after [] (drop 1 ws)

@@ -31,6 +31,7 @@ pub record IsGuest (guest : GuestSpec) : Type 0 where
   pub opened : guest.opened ≡ true
   pub asid_some : 0 < guest.asid
   pub asid_below : guest.asid < 1024
+
 abbrev pub AsidsDiffer : GuestSpec → GuestSpec → Type 0
 AsidsDiffer guest other = guest.asid ≢ other.asid
 
@@ -43,8 +44,10 @@ pub record IsPage (frames guests : ℕ) (page : PageSpec) : Type 0 where
   pub size : page.size ≡ Small
   pub perms_three : length page.perms ≡ 3
   pub perms : AllByRecursion (λ p. p < 16) page.perms
+
 abbrev pub FramesDiffer : PageSpec → PageSpec → Type 0
 FramesDiffer page other = page.frame ≢ other.frame
+
 abbrev pub GpnsDiffer : PageSpec → PageSpec → Type 0
 GpnsDiffer page other = page.guest ≡ other.guest → page.gpn ≢ other.gpn
 
@@ -73,6 +76,7 @@ abbrev pub IsCpuOp : Op → Type 0
 IsCpuOp Load = Unit {0}
 IsCpuOp (Store value) = value < 2 ^ 64
 IsCpuOp op = ⊥
+
 abbrev pub IsCpuItem : Item → Type 0
 IsCpuItem (Access address op) = (address < 2 ^ 64) × (address % 8 ≡ 0) × IsCpuOp op
 IsCpuItem item = ⊥
@@ -81,6 +85,7 @@ IsCpuItem item = ⊥
 abbrev pub IsHostOp : Op → Type 0
 IsHostOp (Store value) = value < 2 ^ 64
 IsHostOp op = ⊥
+
 abbrev pub IsHostItem : ℕ → Item → Type 0
 IsHostItem frames (Access address op) = (address < 4096 * frames) × (address % 8 ≡ 0) × IsHostOp op
 IsHostItem frames item = ⊥
@@ -90,6 +95,7 @@ abbrev pub IsItemOf : ℕ → Role → Item → Type 0
 IsItemOf frames (Cpu guest vmpl npt paging) item = IsCpuItem item
 IsItemOf frames Host item = IsHostItem frames item
 IsItemOf frames Firmware item = ⊥
+
 pub record IsLineOf (frames : ℕ) (role : Role) (line : Line) : Type 0 where
   pub item : IsItemOf frames role line.item
   pub retries : line.retries < 256
