@@ -27,7 +27,7 @@ three (a ∷ b ∷ c ∷ d ∷ xs) long = absurd (omega arith)
 -- the entry of a 4 KB page, field by field
 pub page_facts_is : (guests : List GuestSpec) (page : PageSpec) (asid : ℕ) → asid ≡ (opening_contexts guests page.guest).asid → length page.perms ≡ 3
     → let entry : RmpEntry = record { assigned = true; size = page.size; immutable = false; gpn = page.gpn; asid = asid; vmsa = false; validated = page.valid; perms = 15 ∷ get_or page.perms 0 0 ∷ get_or page.perms 1 0 ∷ get_or page.perms 2 0 ∷ []; kind = Plain } in
-      entry ≡ page_facts guests page 0
+    entry ≡ page_facts guests page 0
 unfolding page_facts
 page_facts_is guests page asid asid_is long =
     let asids : asid ≡ asid_of guests page.guest = asid_is ∙ sym (asid_same guests page.guest) in

@@ -1,5 +1,5 @@
 -- What one event of the machine's functions makes of the state that the machine stands for.
-use Rattle.std.proofs.Common.{◌≡◌, ℕ, ◌-◌, ◌<◌, ◌≤◌, List, length, Option, None, Some, refl, sym, ap, ◌∙◌, subst, arith, All}
+use Rattle.std.proofs.Common.{◌≡◌, ℕ, ◌-◌, ◌≤◌, List, length, Option, None, Some, refl, sym, ap, ◌∙◌, subst, All}
 use Rattle.std.proofs.Math.ListN.{get_or, set, length-set}
 use Rattle.std.proofs.lemmas.List.Elements.{All-set}
 use Rattle.snp_model.specs.declared.event.Event.{Event}
@@ -12,8 +12,8 @@ use Rattle.snp_model.specs.declared.scenario.Role.{Role}
 use Rattle.snp_model.specs.declared.scenario.Role.TheVariants.{Cpu, Host}
 use Rattle.snp_model.specs.Locks.{view_of}
 use Rattle.snp_model.specs.Room.{AreBounded}
-use Rattle.snp_model.specs.State.{ActorPart, Contents, State, View, IsUnfinished, idle_part, part_of}
-use Rattle.snp_model.specs.Step.{Move, event_of, after, item_move, line_at, part_after, step_of}
+use Rattle.snp_model.specs.State.{ActorPart, State, View, IsUnfinished, idle_part, part_of}
+use Rattle.snp_model.specs.Step.{Move, event_of, after, item_move, line_at, part_after}
 use Rattle.std.proofs.lemmas.List.{get_or_read}
 use Rattle.snp_model.proofs.RoomLaws.{step_lowers}
 use Rattle.snp_model.proofs.RunLaws.{unfinished_at}
@@ -39,12 +39,12 @@ machine_with memory guests actors = record { memory = memory; guests = guests; a
 
 move_is : (memory new_memory : Image) (guests : List GuestSpec) (actors : List ActorPart) (actor : ℕ) (part : ActorPart) (shown : Shown) → Makes memory new_memory guests actors actor part shown
     → let m = state_of (machine_with memory guests actors) in
-      let own = part_of m actor in
-      item_move m.frames (view_of m) own own.role (line_at own.script own.item).item ≡ move_by shown (contents_of new_memory guests) own
+    let own = part_of m actor in
+    item_move m.frames (view_of m) own own.role (line_at own.script own.item).item ≡ move_by shown (contents_of new_memory guests) own
 move_is memory new_memory guests actors actor part shown makes =
     let m = state_of (machine_with memory guests actors) in
     subst (λ (own : ActorPart). item_move m.frames (view_of m) own own.role (line_at own.script own.item).item ≡ move_by shown (contents_of new_memory guests) own) makes.part_is
-      (item_move_on m.frames (view_of m) part part.role (line_at part.script part.item).item ∙ makes.moves)
+    (item_move_on m.frames (view_of m) part part.role (line_at part.script part.item).item ∙ makes.moves)
 
 pub event_is : (memory new_memory : Image) (guests : List GuestSpec) (actors : List ActorPart) (actor : ℕ) (part : ActorPart) (shown : Shown) → Makes memory new_memory guests actors actor part shown
     → event_of (state_of (machine_with memory guests actors)) actor ≡ record { item = part.item; attempt = part.attempt; deed = shown.deed; outcome = shown.outcome }
@@ -111,4 +111,4 @@ pub sound_read : (memory new_memory : Image) (guests : List GuestSpec) (actors :
     → IsSoundPart (frames_of memory) (length guests) part
 sound_read memory new_memory guests actors actor part shown makes unfinished machine =
     subst (IsSoundPart (frames_of memory) (length guests)) (sym makes.part_is)
-      (machine.sound (actor - 1) idle_part (unfinished_at (state_of (machine_with memory guests actors)) actor unfinished).within)
+    (machine.sound (actor - 1) idle_part (unfinished_at (state_of (machine_with memory guests actors)) actor unfinished).within)

@@ -1,5 +1,5 @@
 -- The opening: that a machine may be built of a sound scenario, and that it is then in the opening state.
-use Rattle.std.proofs.Common.{◌≡◌, ℕ, zero, suc, ◌+◌, ◌*◌, ◌/◌, ◌<◌, ◌≤◌, ◌^◌, List, [], ◌∷◌, length, map, All, refl, sym, ap, ◌∙◌, subst, arith}
+use Rattle.std.proofs.Common.{◌≡◌, ℕ, zero, suc, ◌*◌, ◌<◌, ◌≤◌, ◌^◌, List, [], ◌∷◌, length, map, All, refl, sym, ap, ◌∙◌, subst, arith}
 use Rattle.std.proofs.Math.ListN.{get_or}
 use Rattle.std.specs.List.{AllByRecursion}
 use Rattle.std.proofs.lemmas.List.Elements.{All-from_recursion}
@@ -19,7 +19,7 @@ use Rattle.snp_model.specs.Sound.{IsSound, IsActor, IsRole, IsItemOf, IsLineOf}
 use Rattle.snp_model.specs.State.{ActorPart, zero_words}
 use Rattle.snp_model.specs.Step.{line_at}
 use Rattle.snp_model.proofs.RoomLaws.{opening_are}
-use Rattle.machine_core.specs.Machine.{MachineImage, IsMachine, state_of}
+use Rattle.machine_core.specs.Machine.{IsMachine, state_of}
 use Rattle.machine_core.specs.Memory.{Image, frames_of, facts_of, words_of, pages_of}
 use Rattle.machine_core.specs.Moves.{IsSoundItem, IsSoundRole, IsSoundPart}
 
@@ -89,10 +89,10 @@ pub built_machine : (c : Scenario) (memory : Image) (guests : List GuestSpec) (a
 built_machine c memory guests actors sound built =
     record {
       sound =
-        subst (λ (parts : List ActorPart). All (IsSoundPart (frames_of memory) (length guests)) parts) (sym built.actors_are)
+          subst (λ (parts : List ActorPart). All (IsSoundPart (frames_of memory) (length guests)) parts) (sym built.actors_are)
           (subst (λ (gs : List GuestSpec). All (IsSoundPart (frames_of memory) (length gs)) (map opening_part c.actors)) (sym built.guests_are)
-            (subst (λ (n : ℕ). All (IsSoundPart n (length c.guests)) (map opening_part c.actors)) (sym built.frames)
-              (All-from_recursion (IsSoundPart (512 * c.regions) (length c.guests)) (map opening_part c.actors) (sound_parts (512 * c.regions) (length c.guests) c.actors sound.actors))));
+          (subst (λ (n : ℕ). All (IsSoundPart n (length c.guests)) (map opening_part c.actors)) (sym built.frames)
+          (All-from_recursion (IsSoundPart (512 * c.regions) (length c.guests)) (map opening_part c.actors) (sound_parts (512 * c.regions) (length c.guests) c.actors sound.actors))));
       few = subst (λ (n : ℕ). n ≤ 32) (sym (ap length built.actors_are ∙ length_parts c.actors)) sound.actors_most;
       bounded = subst AreBounded (sym (opened c memory guests actors built)) (opening_are c);
     }

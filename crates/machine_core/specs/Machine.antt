@@ -1,5 +1,5 @@
 -- What contracts see of the machine, and the flat state that it stands for.
-use Rattle.std.specs.Prelude.{ℕ, ◌≤◌, List, All, length}
+use Rattle.std.specs.Prelude.{◌≤◌, List, All, length}
 use Rattle.snp_model.specs.declared.scenario.GuestSpec.{GuestSpec}
 use Rattle.snp_model.specs.State.{ActorPart, State}
 use Rattle.snp_model.specs.Room.{AreBounded}

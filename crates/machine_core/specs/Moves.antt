@@ -1,10 +1,7 @@
 -- What the machine's functions show of an event, against the moves of the model.
-use Rattle.std.specs.Prelude.{ℕ, ◌<◌, ◌≤◌, ◌/◌, List, length, Option, None}
-use Rattle.std.specs.List.{AllByRecursion}
+use Rattle.std.specs.Prelude.{ℕ, ◌<◌, ◌≤◌, ◌/◌, length, None}
 use Rattle.snp_model.specs.declared.item.Item.{Item}
 use Rattle.snp_model.specs.declared.item.Item.TheVariants.{Access}
-use Rattle.snp_model.specs.declared.item.Line.{Line}
-use Rattle.snp_model.specs.declared.scenario.GuestSpec.{GuestSpec}
 use Rattle.snp_model.specs.declared.scenario.Role.{Role}
 use Rattle.snp_model.specs.declared.scenario.Role.TheVariants.{Cpu, Host, Firmware}
 use Rattle.snp_model.specs.State.{Contents, ActorPart, View}

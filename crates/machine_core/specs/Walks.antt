@@ -1,5 +1,5 @@
 -- Where a nested walk stands, as the machine's own walk keeps it.
-use Rattle.std.specs.Prelude.{ℕ, ◌<◌, ◌≤◌, Option, Some, None}
+use Rattle.std.specs.Prelude.{ℕ, ◌<◌, ◌≤◌}
 use Rattle.snp_model.specs.declared.walk.NestedEnd.{NestedEnd}
 use Rattle.snp_model.specs.declared.walk.NestedEnd.TheVariants.{Read, Leaf, Fault}
 

@@ -116,7 +116,8 @@ fn tries_again(line: &Line, attempt: u32, outcome: &Outcome) -> bool
     ensures { result ≡ tries_again line.now attempt outcome.now }
 {
     match outcome {
-        Outcome::StatusInUse { .. } | Outcome::FirmwareInUse { .. } => attempt < u32::from(line.retries),
+        Outcome::StatusInUse { .. } | Outcome::FirmwareInUse { .. } => attempt
+            < u32::from(line.retries),
         Outcome::Loaded(_)
         | Outcome::Opaque
         | Outcome::Stored

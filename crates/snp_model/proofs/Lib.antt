@@ -1,3 +1,4 @@
+pub mod Adding
 pub mod CoreLaws
 pub mod GuestMemoryLaws
 pub mod MemoryLaws
@@ -5,4 +6,5 @@ pub mod OpeningLaws
 pub mod OrderedLaws
 pub mod RoomLaws
 pub mod RunLaws
+pub mod SoundLaws
 pub mod UseLaws

@@ -1,5 +1,5 @@
 -- What sources give and sinks take, where they tell their bytes, and how their faults are counted. This project's own.
-use Rattle.std.specs.Prelude.{◌≡◌, ℕ, ◌+◌, ◌-◌, ◌^◌, ◌≤◌, min, List, [], ◌++◌, take, IfSome, Option, Some, Result, Ok, Err}
+use Rattle.std.specs.Prelude.{◌≡◌, ◌↔◌, ℕ, ◌+◌, ◌-◌, ◌^◌, ◌<◌, ◌≤◌, min, List, [], ◌++◌, length, take, IfSome, Option, Some, Result, Ok, Err}
 
 -- what a sink holds is what it held followed by these bytes; nothing is said where it didn't tell
 abbrev pub Adds : Option (List ℕ) → Option (List ℕ) → List ℕ → Type 0
@@ -34,6 +34,11 @@ Takes old now bytes = IfSome old (λ left. (rest : List ℕ) × (now ≡ Some re
 abbrev pub ReadTakes : {E : Type 0} → Option (List ℕ) → Option (List ℕ) → Result ℕ E → List ℕ → Type 0
 ReadTakes old now (Ok n) buffer = Takes old now (take n buffer)
 ReadTakes old now (Err e) buffer = Takes old now []
+
+-- a read into a buffer that isn't empty gives no byte exactly where none is left
+abbrev pub EndsWhereEmpty : {E : Type 0} → Option (List ℕ) → Result ℕ E → List ℕ → Type 0
+EndsWhereEmpty old (Ok n) buffer = IfSome old (λ left. 0 < length buffer → ((n ≡ 0) ↔ (left ≡ [])))
+EndsWhereEmpty old (Err e) buffer = Unit {0}
 
 -- all that was left was taken, and it is these bytes
 abbrev pub TakesAll : Option (List ℕ) → Option (List ℕ) → List ℕ → Type 0

@@ -1,5 +1,5 @@
 -- The text of a report: its events, the order of its actors, and its guests. This project's own.
-use Rattle.std.specs.Prelude.{ℕ, zero, suc, ◌+◌, ◌==◌, if◌then◌else◌, List, [], ◌∷◌, ◌++◌, length, codes, decimal}
+use Rattle.std.specs.Prelude.{◌≢◌, ℕ, zero, suc, ◌+◌, ◌<◌, ◌==◌, if◌then◌else◌, List, [], ◌∷◌, ◌++◌, length, replicate, codes, decimal}
 use Rattle.snp_model.specs.declared.event.Event.{Event}
 use Rattle.snp_model.specs.declared.firmware.GuestState.{GuestState}
 use Rattle.snp_model.specs.declared.firmware.GuestState.TheVariants.{Absent, Init, Launching, Running}
@@ -25,6 +25,21 @@ runs_after actor count (next ∷ actors) = if next == actor then runs_after acto
 unfoldable pub runs_of : List ℕ → List (ℕ × ℕ)
 runs_of [] = []
 runs_of (actor ∷ actors) = runs_after actor 1 actors
+
+-- whose events these runs are, one by one
+unfoldable pub actors_in : List (ℕ × ℕ) → List ℕ
+actors_in [] = []
+actors_in (run ∷ runs) = replicate run.1 run.0 ++ actors_in runs
+
+-- the first of these runs isn't of this actor
+abbrev pub IsOfAnother : ℕ → List (ℕ × ℕ) → Type 0
+IsOfAnother actor [] = Unit {0}
+IsOfAnother actor (run ∷ runs) = run.0 ≢ actor
+
+-- each run is as long as possible: none is empty, and none is followed by one of the same actor
+abbrev pub AreLongest : List (ℕ × ℕ) → Type 0
+AreLongest [] = Unit {0}
+AreLongest (run ∷ runs) = (0 < run.1) × IsOfAnother run.0 runs × AreLongest runs
 
 -- a run as a word of an order line
 unfoldable pub run_text : ℕ × ℕ → List ℕ

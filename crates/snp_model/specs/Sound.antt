@@ -55,7 +55,6 @@ GpnsDiffer page other = page.guest ≡ other.guest → page.gpn ≢ other.gpn
 pub record IsWord (frames : ℕ) (word : WordSpec) : Type 0 where
   pub frame : word.frame < frames
   pub index : word.index < 512
-  pub value : word.value < 2 ^ 64
 
 -- a guest processor, of one of so many guests
 pub record IsCpu (frames guests guest vmpl npt : ℕ) (paging : Paging) : Type 0 where
@@ -74,16 +73,16 @@ IsRole frames guests Firmware = ⊥
 -- an item of a guest processor, with any address
 abbrev pub IsCpuOp : Op → Type 0
 IsCpuOp Load = Unit {0}
-IsCpuOp (Store value) = value < 2 ^ 64
+IsCpuOp (Store value) = Unit {0}
 IsCpuOp op = ⊥
 
 abbrev pub IsCpuItem : Item → Type 0
-IsCpuItem (Access address op) = (address < 2 ^ 64) × (address % 8 ≡ 0) × IsCpuOp op
+IsCpuItem (Access address op) = (address % 8 ≡ 0) × IsCpuOp op
 IsCpuItem item = ⊥
 
 -- an item of a hypervisor processor, with an address in memory
 abbrev pub IsHostOp : Op → Type 0
-IsHostOp (Store value) = value < 2 ^ 64
+IsHostOp (Store value) = Unit {0}
 IsHostOp op = ⊥
 
 abbrev pub IsHostItem : ℕ → Item → Type 0

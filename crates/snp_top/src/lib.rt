@@ -1,13 +1,10 @@
-// A library with one function.
+//! The calls of the program, and the texts that it reads and writes.
 #![tactic(auto)]
 
-ghost use Rattle.std.specs.Prelude.{◌≡◌};
-ghost use Rattle.snp_top.specs.Echo.{echo_of};
+pub mod input;
+pub mod outside_port;
+pub mod report_text;
+pub mod run_journal;
 
-// The `ensures` clause is the contract: what `echo` returns is `echo_of` of its argument, a definition
-// in `specs/Echo.antt`, which a caller's clause can cite too.
-pub fn echo(x: usize) -> usize
-    ensures { result ≡ echo_of x }
-{
-    x
-}
+#[cfg(test)]
+mod tests;

@@ -1,8 +1,7 @@
-use Rattle.std.proofs.Common.{◌≡◌, ℕ, List, ◌++◌, rules, arith}
+use Rattle.std.proofs.Common.{ℕ, List, arith}
 use Rattle.std.proofs.lemmas.Grind.{common_steps}
 use Rattle.machine_core.proofs.WalkLaws.{stands_now, stands_then}
 use Rattle.machine_core.proofs.walk.walk_of.Goals as goal
-use Rattle.snp_model.specs.NestedWalk.{walk_from, nested_end}
 use Rattle.snp_model.specs.Step.{nested_words}
 
 pub returns-clause-stands : goal.returns-clause-stands

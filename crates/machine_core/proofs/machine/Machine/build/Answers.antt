@@ -1,17 +1,10 @@
-use Rattle.std.proofs.Common.{◌≡◌, ℕ, ◌*◌, ◌+◌, ◌<◌, ◌≤◌, ◌^◌, List, length, map, refl, sym, ap, ◌∙◌, subst, arith}
-use Rattle.std.specs.List.{AllByRecursion}
-use Rattle.snp_model.specs.declared.scenario.Actor.{Actor}
-use Rattle.snp_model.specs.declared.scenario.GuestSpec.{GuestSpec}
-use Rattle.snp_model.specs.declared.scenario.PageSpec.{PageSpec}
-use Rattle.snp_model.specs.declared.scenario.Scenario.{Scenario}
-use Rattle.snp_model.specs.declared.scenario.WordSpec.{WordSpec}
+use Rattle.std.proofs.Common.{◌≡◌, ℕ, ◌*◌, List, length, map, ap, ◌∙◌, arith}
 use Rattle.snp_model.specs.Facts.{free_entry}
 use Rattle.snp_model.specs.Opening.{facts_from, words_from, opening_part}
-use Rattle.snp_model.specs.Sound.{IsSound, IsPage, IsWord}
 use Rattle.snp_model.specs.State.{zero_words}
 use Rattle.machine_core.specs.Memory.{frames_of, facts_of, words_of}
 use Rattle.machine_core.proofs.OpeningLaws.{IsBuilt, opened, built_machine, short_scripts, same_words, same_facts}
-use Rattle.machine_core.proofs.Pending.{valid_is_sound}
+use Rattle.snp_model.proofs.SoundLaws.{valid_is_sound}
 use Rattle.machine_core.proofs.machine.Machine.build.Goals as goal
 
 pub overflow_mul-scenario : goal.overflow_mul-scenario

@@ -1,12 +1,9 @@
-use Rattle.std.proofs.Common.{◌≡◌, List, sym, subst, ap, ◌∙◌}
-use Rattle.snp_model.specs.declared.event.Event.{Event}
-use Rattle.snp_model.specs.declared.scenario.GuestSpec.{GuestSpec}
-use Rattle.snp_model.specs.State.{ActorPart, State, IsUnfinished}
-use Rattle.snp_model.specs.Step.{event_of, after, part_after}
+use Rattle.std.proofs.Common.{sym, subst, ap, ◌∙◌}
+use Rattle.snp_model.specs.State.{IsUnfinished}
+use Rattle.snp_model.specs.Step.{event_of, after}
 use Rattle.machine_core.specs.Machine.{MachineImage, state_of}
 use Rattle.machine_core.specs.Memory.{contents_of}
-use Rattle.machine_core.specs.Moves.{move_by}
-use Rattle.machine_core.proofs.MachineLaws.{Makes, made, event_is, after_is, machine_after, sound_read}
+use Rattle.machine_core.proofs.MachineLaws.{made, event_is, after_is, machine_after, sound_read}
 use Rattle.machine_core.proofs.machine.Machine.step.Goals as goal
 
 pub invariant_of-self : goal.invariant_of-self
