@@ -87,6 +87,7 @@ machine_after memory new_memory guests actors actor part new_part shown makes be
     let new_sound = subst (λ (p : ActorPart). IsSoundPart (frames_of memory) (length guests) p) (sym becomes) (sound_after (frames_of memory) (length guests) part _ shown.outcome sound) in
     record {
       sound = subst (λ (n : ℕ). All (IsSoundPart n (length guests)) (set actors (actor - 1) new_part)) (sym same) (All-set (IsSoundPart (frames_of memory) (length guests)) actors (actor - 1) new_part new_sound machine.sound);
+      few_guests = machine.few_guests;
       few = subst (λ (n : ℕ). n ≤ 32) (sym (length-set actors (actor - 1) new_part)) machine.few;
       bounded = subst AreBounded (sym (after_is memory new_memory guests actors actor part new_part shown makes becomes same)) (step_lowers (state_of (machine_with memory guests actors)) actor machine.bounded unfinished).bounded;
     }

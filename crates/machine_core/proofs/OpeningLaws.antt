@@ -93,6 +93,7 @@ built_machine c memory guests actors sound built =
           (subst (λ (gs : List GuestSpec). All (IsSoundPart (frames_of memory) (length gs)) (map opening_part c.actors)) (sym built.guests_are)
           (subst (λ (n : ℕ). All (IsSoundPart n (length c.guests)) (map opening_part c.actors)) (sym built.frames)
           (All-from_recursion (IsSoundPart (512 * c.regions) (length c.guests)) (map opening_part c.actors) (sound_parts (512 * c.regions) (length c.guests) c.actors sound.actors))));
+      few_guests = subst (λ (n : ℕ). n ≤ 8) (sym (ap length built.guests_are)) sound.guests_most;
       few = subst (λ (n : ℕ). n ≤ 32) (sym (ap length built.actors_are ∙ length_parts c.actors)) sound.actors_most;
       bounded = subst AreBounded (sym (opened c memory guests actors built)) (opening_are c);
     }

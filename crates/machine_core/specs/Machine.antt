@@ -15,8 +15,9 @@ pub record MachineImage : Type 0 where
 abbrev pub state_of : MachineImage → State
 state_of machine = record { frames = frames_of machine.memory; guests = machine.guests; contents = contents_of machine.memory machine.guests; actors = machine.actors }
 
--- there are few actors, their parts fit memory and guests, and their open attempts are short
+-- there are few guests and actors, the actors' parts fit memory and guests, and their open attempts are short
 pub record IsMachine (machine : MachineImage) : Type 0 where
   pub sound : All (IsSoundPart (frames_of machine.memory) (length machine.guests)) machine.actors
+  pub few_guests : length machine.guests ≤ 8
   pub few : length machine.actors ≤ 32
   pub bounded : AreBounded (state_of machine)

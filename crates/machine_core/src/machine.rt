@@ -1,4 +1,5 @@
-ghost use Rattle.std.specs.Prelude.{◌≡◌, ℕ, IfOk};
+ghost use Rattle.std.specs.Prelude.{◌≡◌, ℕ, ◌<◌, length, IfOk};
+ghost use Rattle.snp_model.specs.Ending.{guest_line};
 ghost use Rattle.snp_model.specs.Opening.{opening};
 ghost use Rattle.snp_model.specs.Reading.{Valid};
 ghost use Rattle.std.specs.Bool.{OnTrue, OnFalse};
@@ -10,7 +11,7 @@ use crate::actor::ActorState;
 use crate::building::{make_actors, set_pages, set_words};
 use crate::event::next_event;
 use crate::memory::Memory;
-use snp_model::{Event, GuestSpec, Listed, Scenario};
+use snp_model::{Event, GuestLine, GuestSpec, GuestState, Listed, Scenario};
 use std::alloc::{AllocError, Global};
 use std::marker::Model;
 
@@ -89,5 +90,30 @@ impl Machine {
             }
         }
         true
+    }
+
+    /// How many guests are declared, at most 255.
+    pub fn guests(&self) -> u8
+        ensures { result ≡ length (state_of self.now).guests }
+    {
+        self.guests.len() as u8
+    }
+
+    /// What a report says of a guest, numbered from 1.
+    #[tactic(auto, unfolding(snp_model::specs::Opening::opening_context))]
+    pub fn guest_line(&self, guest: u8) -> GuestLine
+        requires { 0 < guest }
+        ensures { result ≡ guest_line guest ((state_of self.now).contents.contexts guest) }
+    {
+        let opened = match self.guests.as_slice().get(guest as usize - 1) {
+            None => false,
+            Some(spec) => spec.opened,
+        };
+        GuestLine {
+            guest,
+            state: if opened { GuestState::Running } else { GuestState::Absent },
+            pages: 0,
+            digest: [0; 48],
+        }
     }
 }

@@ -1,4 +1,6 @@
 pub mod Attempts
+pub mod CommandLine
+pub mod Ending
 pub mod EventText
 pub mod Facts
 pub mod Faults

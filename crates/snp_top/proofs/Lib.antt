@@ -5,6 +5,7 @@ pub mod NumberLaws
 pub mod PartsLaws
 pub mod Pieces
 pub mod ReadingLaws
+pub mod ReplayLaws
 pub mod Runs
 pub mod ScheduleLaws
 pub mod StepLaws

@@ -3,6 +3,7 @@
 
 pub mod input;
 pub mod outside_port;
+pub mod replay;
 pub mod report_text;
 pub mod run_journal;
 pub mod scenario_text;

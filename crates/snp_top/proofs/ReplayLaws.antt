@@ -1,0 +1,58 @@
+-- What running a scenario makes of its machine, its journal and its guests.
+use Rattle.std.proofs.Common.{◌≡◌, ℕ, zero, suc, ◌+◌, ◌*◌, ◌<◌, ◌≤◌, List, [], ◌∷◌, ◌++◌, length, drop, refl, sym, ap, ◌∙◌, subst, arith, append_assoc}
+use Rattle.snp_model.specs.declared.event.Event.{Event}
+use Rattle.snp_model.specs.declared.report.GuestLine.{GuestLine}
+use Rattle.snp_model.specs.declared.scenario.GuestSpec.{GuestSpec}
+use Rattle.snp_model.specs.declared.scenario.Scenario.{Scenario}
+use Rattle.snp_model.specs.Attempts.{actors_attempts, attempts_of}
+use Rattle.snp_model.specs.Ending.{guest_line, lines_from}
+use Rattle.snp_model.specs.Journal.{Entries}
+use Rattle.snp_model.specs.Opening.{opening}
+use Rattle.snp_model.specs.Reading.{turns_spell, order_of}
+use Rattle.snp_model.specs.Room.{AreBounded, room_of}
+use Rattle.snp_model.specs.Run.{IsDefined, IsDefinedFrom, run_from, state_from}
+use Rattle.snp_model.specs.Sound.{IsSound}
+use Rattle.snp_model.specs.State.{Contexts, State}
+use Rattle.snp_model.specs.Step.{after}
+use Rattle.snp_model.proofs.RoomLaws.{opening_are, opening_room}
+use Rattle.snp_model.proofs.RunLaws.{after_guests}
+use Rattle.snp_top.specs.Schedule.{HasRoom, Plays}
+
+-- one more guest
+pub lines_more : (contexts : Contexts) (guests : List GuestSpec) (k first : ℕ) → k < length guests → lines_from contexts first (drop k guests) ≡ guest_line first (contexts first) ∷ lines_from contexts (first + 1) (drop (k + 1) guests)
+unfolding lines_from
+lines_more contexts [] k first within = absurd (omega arith)
+lines_more contexts (guest ∷ guests) zero first within = refl
+lines_more contexts (guest ∷ guests) (suc k) first within =
+    let step : suc k + 1 ≡ suc (k + 1) = omega arith in
+    lines_more contexts guests k first (omega arith) ∙ ap (λ (n : ℕ). guest_line first (contexts first) ∷ lines_from contexts (first + 1) (drop n (guest ∷ guests))) (sym step)
+
+pub lines_pushed : (contexts : Contexts) (guests : List GuestSpec) (k : ℕ) (before now whole : List GuestLine) (line : GuestLine) → k < length guests
+    → before ++ lines_from contexts (k + 1) (drop k guests) ≡ whole → line ≡ guest_line (k + 1) (contexts (k + 1)) → now ≡ before ++ line ∷ []
+    → now ++ lines_from contexts (k + 1 + 1) (drop (k + 1) guests) ≡ whole
+lines_pushed contexts guests k before now whole line within so_far is adds =
+    ap (λ (l : List GuestLine). l ++ lines_from contexts (k + 1 + 1) (drop (k + 1) guests)) (adds ∙ ap (λ (g : GuestLine). before ++ g ∷ []) is)
+    ∙ append_assoc before (guest_line (k + 1) (contexts (k + 1)) ∷ []) (lines_from contexts (k + 1 + 1) (drop (k + 1) guests))
+    ∙ ap (λ (l : List GuestLine). before ++ l) (sym (lines_more contexts guests k (k + 1) within))
+    ∙ so_far
+
+pub state_guests : (m : State) (s : List ℕ) → (state_from m s).guests ≡ m.guests
+unfolding state_from
+state_guests m [] = refl
+state_guests m (actor ∷ actors) = state_guests (after m actor) actors ∙ after_guests m actor
+
+-- the opening machine's journal has room
+pub opening_has_room : (c : Scenario) (m : State) (journal : Entries) (attempts : ℕ) → m ≡ opening c → attempts ≡ actors_attempts c.actors → journal ≡ (let j : Entries = record { list = []; room = 32 * attempts } in j) → HasRoom m journal
+unfolding attempts_of
+opening_has_room c m journal attempts opens counted empty =
+    subst (λ (j : Entries). HasRoom m j) (sym empty) (subst (λ (k : State). HasRoom k (record { list = []; room = 32 * attempts })) (sym opens)
+      (record { bounded = opening_are c; room = let most = opening_room c in omega (arith, most, counted) }))
+
+-- the schedule of a sound scenario is short
+pub order_short : (c : Scenario) → IsSound c → length (turns_spell c.order) ≤ 262144
+unfolding order_of
+order_short c sound = sound.order_most
+
+pub attempts_few : (c : Scenario) → IsSound c → actors_attempts c.actors ≤ 8192
+unfolding attempts_of
+attempts_few c sound = sound.attempts_most
