@@ -1,1 +1,3 @@
+pub mod Aes
 pub mod Facts
+pub mod Polynomials
