@@ -1,3 +1,4 @@
 pub mod Aes
 pub mod Facts
 pub mod Polynomials
+pub mod Gcm

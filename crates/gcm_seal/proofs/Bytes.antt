@@ -1,0 +1,92 @@
+-- The bytes of a block, the word that they are, and its coefficients.
+use Rattle.std.proofs.Common.{◌≡◌, ℕ, ◌+◌, ◌*◌, ◌/◌, ◌%◌, ◌^◌, ◌<◌, suc, zero, List, [], ◌∷◌, ◌++◌, length, get_or, fold, refl, ap, sym, ◌∙◌, arith}
+use Rattle.std.specs.Int.{bit_at, byte_at, bytes_high_first, to_be_bytes, from_be_bytes, w128}
+use Rattle.std.proofs.Math.Nat.{pow-suc, div-div-eq-div-mul}
+use Rattle.std.proofs.lemmas.Nat.{shr-shr}
+use Rattle.std.proofs.lemmas.Nat.Bits.{bit_at_cat_low}
+use Rattle.snp_model.specs.Polynomials.{byte_coefficients, bytes_of, coefficients}
+use Rattle.gcm_seal.specs.Words.{bits_below, word_coefficients}
+
+byte_power : (k : ℕ) → 256 ^ k ≡ 2 ^ (8 * k)
+byte_power zero = refl
+byte_power (suc k) =
+    let more : 8 * suc k ≡ suc (suc (suc (suc (suc (suc (suc (suc (8 * k)))))))) = omega arith in
+    rw more (omega (arith, byte_power k, pow-suc 256 k, pow-suc 2 (suc (suc (suc (suc (suc (suc (suc (8 * k)))))))), pow-suc 2 (suc (suc (suc (suc (suc (suc (8 * k))))))), pow-suc 2 (suc (suc (suc (suc (suc (8 * k)))))), pow-suc 2 (suc (suc (suc (suc (8 * k))))), pow-suc 2 (suc (suc (suc (8 * k)))), pow-suc 2 (suc (suc (8 * k))), pow-suc 2 (suc (8 * k)), pow-suc 2 (8 * k)))
+
+-- bit i of the byte k of a word
+high_bit : (n k i j : ℕ) → j ≡ 8 * k + i → bit_at n j ≡ bit_at (n / 256 ^ k) i
+high_bit n k i j is = ap (bit_at n) is ∙ ap (λ m. m % 2) (sym (shr-shr n (8 * k) i)) ∙ ap (λ p. n / p / 2 ^ i % 2) (sym (byte_power k))
+
+-- one byte more
+bits_below-byte : (k n : ℕ) → bits_below (8 * suc k) n ≡ byte_coefficients (n / 256 ^ k) ++ bits_below (8 * k) n
+bits_below-byte k n =
+    let more : 8 * suc k ≡ suc (suc (suc (suc (suc (suc (suc (suc (8 * k)))))))) = omega arith in
+    let m0 = 8 * k in
+    let m1 = suc m0 in
+    let m2 = suc m1 in
+    let m3 = suc m2 in
+    let m4 = suc m3 in
+    let m5 = suc m4 in
+    let m6 = suc m5 in
+    let m7 = suc m6 in
+    let b0 = high_bit n k 0 m0 (omega arith) in
+    let b1 = high_bit n k 1 m1 (omega arith) in
+    let b2 = high_bit n k 2 m2 (omega arith) in
+    let b3 = high_bit n k 3 m3 (omega arith) in
+    let b4 = high_bit n k 4 m4 (omega arith) in
+    let b5 = high_bit n k 5 m5 (omega arith) in
+    let b6 = high_bit n k 6 m6 (omega arith) in
+    let b7 = high_bit n k 7 m7 (omega arith) in
+    rw more (λ i. b7 i ∷ b6 i ∷ b5 i ∷ b4 i ∷ b3 i ∷ b2 i ∷ b1 i ∷ b0 i ∷ bits_below (8 * k) n)
+
+-- the low byte alone counts
+low_byte : (n : ℕ) → byte_coefficients (n % 256) ≡ byte_coefficients n
+low_byte n =
+    let b7 : n % 256 / 128 % 2 ≡ n / 128 % 2 = omega arith in
+    let b6 : n % 256 / 64 % 2 ≡ n / 64 % 2 = omega arith in
+    let b5 : n % 256 / 32 % 2 ≡ n / 32 % 2 = omega arith in
+    let b4 : n % 256 / 16 % 2 ≡ n / 16 % 2 = omega arith in
+    let b3 : n % 256 / 8 % 2 ≡ n / 8 % 2 = omega arith in
+    let b2 : n % 256 / 4 % 2 ≡ n / 4 % 2 = omega arith in
+    let b1 : n % 256 / 2 % 2 ≡ n / 2 % 2 = omega arith in
+    let b0 : n % 256 / 1 % 2 ≡ n / 1 % 2 = omega arith in
+    λ i. b7 i ∷ b6 i ∷ b5 i ∷ b4 i ∷ b3 i ∷ b2 i ∷ b1 i ∷ b0 i ∷ []
+
+byte_value : (n : ℕ) → n < 256 → 128 * bit_at n 7 + 64 * bit_at n 6 + 32 * bit_at n 5 + 16 * bit_at n 4 + 8 * bit_at n 3 + 4 * bit_at n 2 + 2 * bit_at n 1 + bit_at n 0 ≡ n
+byte_value n small = omega arith
+
+-- the word whose bytes these are, after the high ones
+abbrev number : ℕ → List ℕ → ℕ
+number high [] = high
+number high (b ∷ bytes) = number (high * 256 + b) bytes
+
+-- what stands above the bytes
+above_bytes : (bytes : List ℕ) (high : ℕ) → ((i : ℕ) → get_or bytes i 0 < 256) → number high bytes / 256 ^ length bytes ≡ high
+above_bytes [] high small = omega arith
+above_bytes (b ∷ bytes) high small =
+    let rest = above_bytes bytes (high * 256 + b) (λ i. small (suc i)) in
+    let n = number (high * 256 + b) bytes in
+    let power : 256 ^ suc (length bytes) ≡ 256 ^ length bytes * 256 = pow-suc 256 (length bytes) in
+    let first : b < 256 = small 0 in
+    rw power (sym (div-div-eq-div-mul n (256 ^ length bytes) 256) ∙ ap (λ m. m / 256) rest ∙ omega arith)
+
+number_coefficients : (bytes : List ℕ) (high : ℕ) → ((i : ℕ) → get_or bytes i 0 < 256) → bits_below (8 * length bytes) (number high bytes) ≡ coefficients bytes
+unfolding coefficients
+number_coefficients [] high small = refl
+number_coefficients (b ∷ bytes) high small =
+    let n = number (high * 256 + b) bytes in
+    let top : n / 256 ^ length bytes ≡ high * 256 + b = above_bytes bytes (high * 256 + b) (λ i. small (suc i)) in
+    let first : b < 256 = small 0 in
+    let low : (high * 256 + b) % 256 ≡ b % 256 = omega arith in
+    bits_below-byte (length bytes) n
+    ∙ ap (λ m. byte_coefficients m ++ bits_below (8 * length bytes) n) top
+    ∙ ap (λ l. l ++ bits_below (8 * length bytes) n) (sym (low_byte (high * 256 + b)) ∙ ap byte_coefficients low ∙ low_byte b)
+    ∙ ap (λ l. byte_coefficients b ++ l) (number_coefficients bytes (high * 256 + b) (λ i. small (suc i)))
+
+sixteen : (bytes : List ℕ) → length bytes ≡ 16 → from_be_bytes w128 bytes ≡ number 0 bytes
+sixteen (a ∷ b ∷ c ∷ d ∷ e ∷ f ∷ g ∷ h ∷ i ∷ j ∷ k ∷ l ∷ m ∷ n ∷ o ∷ p ∷ []) len = omega arith
+sixteen _ len = absurd (omega arith)
+
+pub word_from_bytes : (bytes : List ℕ) (n : ℕ) → length bytes ≡ 16 → ((i : ℕ) → get_or bytes i 0 < 256) → n ≡ from_be_bytes w128 bytes → word_coefficients n ≡ coefficients bytes
+unfolding word_coefficients
+word_from_bytes bytes n len small is = ap (bits_below 128) (is ∙ sixteen bytes len) ∙ ap (λ k. bits_below (8 * k) (number 0 bytes)) (sym len) ∙ number_coefficients bytes 0 small
