@@ -1,10 +1,12 @@
 -- The bytes of a block, the word that they are, and its coefficients.
-use Rattle.std.proofs.Common.{◌≡◌, ℕ, ◌+◌, ◌*◌, ◌/◌, ◌%◌, ◌^◌, ◌<◌, suc, zero, List, [], ◌∷◌, ◌++◌, length, get_or, fold, refl, ap, sym, ◌∙◌, arith}
+use Rattle.std.proofs.Common.{◌≡◌, ℕ, ◌+◌, ◌-◌, ◌*◌, ◌/◌, ◌%◌, ◌^◌, ◌<◌, ◌≤◌, suc, zero, List, [], ◌∷◌, ◌++◌, length, get_or, drop, replicate, refl, ap, sym, ◌∙◌, arith}
+use Rattle.std.proofs.lemmas.List.{length-append, length-replicate, drop-replicate}
 use Rattle.std.specs.Int.{bit_at, byte_at, bytes_high_first, to_be_bytes, from_be_bytes, w128}
 use Rattle.std.proofs.Math.Nat.{pow-suc, div-div-eq-div-mul}
 use Rattle.std.proofs.lemmas.Nat.{shr-shr}
 use Rattle.std.proofs.lemmas.Nat.Bits.{bit_at_cat_low}
 use Rattle.snp_model.specs.Polynomials.{byte_coefficients, bytes_of, coefficients}
+use Rattle.snp_model.specs.Gcm.{padded}
 use Rattle.gcm_seal.specs.Words.{bits_below, word_coefficients}
 
 byte_power : (k : ℕ) → 256 ^ k ≡ 2 ^ (8 * k)
@@ -90,3 +92,44 @@ sixteen _ len = absurd (omega arith)
 pub word_from_bytes : (bytes : List ℕ) (n : ℕ) → length bytes ≡ 16 → ((i : ℕ) → get_or bytes i 0 < 256) → n ≡ from_be_bytes w128 bytes → word_coefficients n ≡ coefficients bytes
 unfolding word_coefficients
 word_from_bytes bytes n len small is = ap (bits_below 128) (is ∙ sixteen bytes len) ∙ ap (λ k. bits_below (8 * k) (number 0 bytes)) (sym len) ∙ number_coefficients bytes 0 small
+
+bytes_of-byte : (n : ℕ) (rest : List ℕ) → bytes_of (byte_coefficients n ++ rest) ≡ n % 256 ∷ bytes_of rest
+unfolding bytes_of
+bytes_of-byte n rest =
+    let small : n % 256 < 256 = omega arith in
+    ap (λ l. bytes_of (l ++ rest)) (sym (low_byte n)) ∙ ap (λ m. m ∷ bytes_of rest) (byte_value (n % 256) small)
+
+byte_at_is : (k n : ℕ) → byte_at k n ≡ n / 256 ^ k % 256
+byte_at_is zero n = omega arith
+byte_at_is (suc k) n = refl
+
+bytes_of-bits : (k n : ℕ) → bytes_of (bits_below (8 * k) n) ≡ bytes_high_first k n
+unfolding bytes_of
+bytes_of-bits zero n = refl
+bytes_of-bits (suc k) n =
+    ap bytes_of (bits_below-byte k n) ∙ bytes_of-byte (n / 256 ^ k) (bits_below (8 * k) n)
+    ∙ (λ i. sym (byte_at_is k n) i ∷ bytes_of-bits k n i)
+
+pub bytes_from_word : (n : ℕ) → bytes_of (word_coefficients n) ≡ to_be_bytes w128 n
+unfolding word_coefficients
+bytes_from_word n = bytes_of-bits 16 n
+
+-- each number is a byte
+small-append : (xs ys : List ℕ) → ((i : ℕ) → get_or xs i 0 < 256) → ((i : ℕ) → get_or ys i 0 < 256) → (i : ℕ) → get_or (xs ++ ys) i 0 < 256
+small-append [] ys x y i = y i
+small-append (a ∷ xs) ys x y zero = x 0
+small-append (a ∷ xs) ys x y (suc i) = small-append xs ys (λ j. x (suc j)) y i
+
+small-zeros : (n i : ℕ) → get_or (replicate n 0) i 0 < 256
+small-zeros zero i = omega arith
+small-zeros (suc n) zero = omega arith
+small-zeros (suc n) (suc i) = small-zeros n i
+
+-- the word of a block that is written over the front of sixteen zero bytes
+pub padded_word_is : (block front : List ℕ) (n : ℕ) → length block ≤ 16 → ((i : ℕ) → get_or block i 0 < 256) → front ≡ block → n ≡ from_be_bytes w128 (front ++ drop (length block) (replicate 16 0)) → word_coefficients n ≡ coefficients (padded block)
+unfolding padded
+padded_word_is block front n short small is_front is =
+    let zeros = replicate (16 - length block) 0 in
+    let whole : front ++ drop (length block) (replicate 16 0) ≡ block ++ zeros = ap (λ l. l ++ drop (length block) (replicate 16 0)) is_front ∙ ap (λ l. block ++ l) (drop-replicate (length block) 16 0) in
+    let len : length (block ++ zeros) ≡ 16 = omega (arith, length-append block zeros, length-replicate {A = ℕ} (16 - length block) 0) in
+    word_from_bytes (block ++ zeros) n len (small-append block zeros small (small-zeros (16 - length block))) (is ∙ ap (from_be_bytes w128) whole)

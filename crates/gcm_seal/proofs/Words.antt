@@ -37,11 +37,11 @@ last_coefficient : (n : ℕ) → get_or (word_coefficients n) 127 0 ≡ bit_and 
 unfolding word_coefficients
 last_coefficient n = omega (arith, and_pow n 0)
 
-word_coefficients-xor : (a b : ℕ) → word_coefficients (bit_xor a b) ≡ plus (word_coefficients a) (word_coefficients b)
+pub word_coefficients-xor : (a b : ℕ) → word_coefficients (bit_xor a b) ≡ plus (word_coefficients a) (word_coefficients b)
 unfolding word_coefficients
 word_coefficients-xor a b = bits_below-xor 128 a b
 
-word_coefficients-zero : word_coefficients 0 ≡ zero_polynomial
+pub word_coefficients-zero : word_coefficients 0 ≡ zero_polynomial
 unfolding word_coefficients
 word_coefficients-zero = bits_below-zero
 

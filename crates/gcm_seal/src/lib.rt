@@ -1,4 +1,5 @@
 //! AES-256-GCM with 96-bit IVs and 128-bit tags (NIST SP 800-38D).
 #![tactic(auto)]
 
+mod hash;
 mod polynomial;
