@@ -1,5 +1,6 @@
 //! AES-256-GCM with 96-bit IVs and 128-bit tags (NIST SP 800-38D).
 #![tactic(auto)]
 
+mod counter;
 mod hash;
 mod polynomial;
