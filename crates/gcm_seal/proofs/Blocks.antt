@@ -1,16 +1,18 @@
 -- The blocks of a string, one at a time.
-use Rattle.std.proofs.Common.{◌≡◌, ℕ, ◌+◌, ◌-◌, ◌*◌, ◌/◌, ◌%◌, ◌^◌, ◌<◌, ◌≤◌, suc, zero, List, [], ◌∷◌, ◌++◌, length, min, map, get_or, set, take, drop, refl, ap, sym, ◌∙◌, arith}
-use Rattle.std.proofs.lemmas.List.{append-nil, length-drop, length-append, append_assoc, take_all, drop_all, length-take, take_min, drop_min, drop-drop, drop_more, drop-set-lt, take_more_set, take_at, drop_at}
+use Rattle.std.proofs.Common.{◌≡◌, ℕ, ◌+◌, ◌-◌, ◌*◌, ◌/◌, ◌%◌, ◌^◌, ◌<◌, ◌≤◌, suc, zero, List, [], ◌∷◌, ◌++◌, length, min, map, get_or, set, take, drop, refl, ap, sym, inl, inr, ◌∙◌, arith}
+use Rattle.std.proofs.lemmas.List.{append-nil, length-drop, nil_from_length, take-append-drop, length-append, append_assoc, take_all, drop_all, length-take, take_min, drop_min, drop-drop, drop_more, drop-set-lt, take_more_set, take_at, drop_at}
 use Rattle.std.proofs.lemmas.Nat.{from_be_bytes-to_be_bytes_4}
-use Rattle.std.specs.Int.{w32, to_be_bytes, from_be_bytes}
+use Rattle.std.specs.Int.{w32, w128, to_be_bytes, from_be_bytes}
 use Rattle.std.proofs.lemmas.Slice.{take-put_mid, drop-put_mid}
 use borrow.Rule.Slice.PartMut.{put_mid}
 use Rattle.std.specs.Int.Bits.{bit_xor, xor_assoc, xor_self, xor_zero_r}
-use Rattle.snp_model.specs.Polynomials.{coefficients, plus, product}
+use Rattle.snp_model.specs.Polynomials.{bytes_of, coefficients, plus, product, zero_polynomial}
 use Rattle.snp_model.specs.Aes.{cipher}
 use Rattle.gcm_seal.specs.Words.{word_coefficients, counter_block}
-use Rattle.gcm_seal.proofs.Words.{word_coefficients-xor}
-use Rattle.snp_model.specs.Gcm.{blocks, first_blocks, gctr, gctr_blocks, ghash, inc32, padded, xor_bytes}
+use Rattle.gcm_seal.proofs.Words.{word_coefficients-xor, word_coefficients-zero}
+use Rattle.gcm_seal.proofs.Bytes.{bytes_from_word}
+use Rattle.std.proofs.lemmas.Bool.{cases_lt}
+use Rattle.snp_model.specs.Gcm.{before_first, blocks, first_blocks, hash_subkey, hashed, lengths_block, plain, tag, gctr, gctr_blocks, ghash, inc32, padded, xor_bytes}
 
 pub blocks-nil : (text : List ℕ) → length text ≡ 0 → blocks text ≡ []
 unfolding blocks first_blocks
@@ -133,3 +135,70 @@ gctr_ends key counter whole text at over before =
 pub xor_ends : (block mask whole : List ℕ) (i : ℕ) → length block ≤ i → take i block ++ xor_bytes (drop i block) mask ≡ whole → block ≡ whole
 xor_ends block mask whole i over before =
     sym (append-nil block) ∙ ap (λ t. t ++ []) (sym (take_all i block over)) ∙ ap (λ d. take i block ++ d) (sym (ap (λ d. xor_bytes d mask) (drop_all i block over) ∙ xor_nothing mask)) ∙ before
+
+-- the whole hash: the AAD, the ciphertext and the lengths
+pub hash_is : (h aad text : List ℕ) (after_aad after_text lengths hash : ℕ) → word_coefficients after_aad ≡ ghash h (word_coefficients 0) (map padded (blocks aad)) → word_coefficients after_text ≡ ghash h (word_coefficients after_aad) (map padded (blocks text)) → word_coefficients lengths ≡ coefficients (lengths_block aad text) → word_coefficients hash ≡ product (word_coefficients (bit_xor after_text lengths)) h → word_coefficients hash ≡ ghash h zero_polynomial (hashed aad text)
+unfolding ghash hashed
+hash_is h aad text after_aad after_text lengths hash is_aad is_text is_lengths is_hash =
+    let end : List (List ℕ) = lengths_block aad text ∷ [] in
+    let xs = map padded (blocks aad) in
+    let ys = map padded (blocks text) in
+    let first : word_coefficients after_aad ≡ ghash h zero_polynomial xs = is_aad ∙ ap (λ y. ghash h y xs) word_coefficients-zero in
+    let second : word_coefficients after_text ≡ ghash h (ghash h zero_polynomial xs) ys = is_text ∙ ap (λ y. ghash h y ys) first in
+    let sum : word_coefficients (bit_xor after_text lengths) ≡ plus (ghash h (ghash h zero_polynomial xs) ys) (coefficients (lengths_block aad text)) = word_coefficients-xor after_text lengths ∙ (λ i. plus (second i) (is_lengths i)) in
+    is_hash ∙ ap (λ p. product p h) sum ∙ sym (ghash-append h zero_polynomial xs (ys ++ end) ∙ ghash-append h (ghash h zero_polynomial xs) ys end)
+
+-- the counter blocks of the tag and of the text's first block
+before_first_is : (iv : List ℕ) → before_first iv ≡ counter_block iv 1
+unfolding before_first counter_block
+before_first_is iv = refl
+
+pub plain_is : (key iv text now : List ℕ) → length iv ≡ 12 → now ≡ gctr key (counter_block iv 2) text → now ≡ plain key iv text
+unfolding plain
+plain_is key iv text now len is =
+    is ∙ ap (λ c. gctr key c text) (sym (ap inc32 (before_first_is iv) ∙ inc32-count iv 1 len (omega arith)))
+
+pub tag_is : (key iv aad text now : List ℕ) (h hash : ℕ) → word_coefficients h ≡ hash_subkey key → word_coefficients hash ≡ ghash (word_coefficients h) zero_polynomial (hashed aad text) → now ≡ gctr key (counter_block iv 1) (to_be_bytes w128 hash) → now ≡ tag key iv aad text
+unfolding tag
+tag_is key iv aad text now h hash is_h is_hash is =
+    is ∙ ap (gctr key (counter_block iv 1)) (sym (bytes_from_word hash) ∙ ap bytes_of (is_hash ∙ ap (λ k. ghash k zero_polynomial (hashed aad text)) is_h))
+    ∙ ap (λ c. gctr key c (bytes_of (ghash (hash_subkey key) zero_polynomial (hashed aad text)))) (sym (before_first_is iv))
+
+-- a block that is added, and the rest after it: where the block is short, nothing follows
+first_added : (text x rest : List ℕ) → length x ≡ length (take 16 text) → (length text ≤ 16 → rest ≡ []) → (take 16 (x ++ rest) ≡ x) × (drop 16 (x ++ rest) ≡ rest)
+first_added text x rest same none = elim (cases_lt (length text) 17) [
+    inl short ↦
+        (let empty : rest ≡ [] = none (omega arith) in
+         let len : length (x ++ []) ≤ 16 = omega (arith, length-append x [], length-take 16 text) in
+         (ap (λ r. take 16 (x ++ r)) empty ∙ take_all 16 (x ++ []) len ∙ append-nil x,
+          ap (λ r. drop 16 (x ++ r)) empty ∙ drop_all 16 (x ++ []) len ∙ sym empty))
+  | inr long ↦
+        (let len : length x ≡ 16 = omega (arith, length-take 16 text) in
+         (take_at x rest 16 len, drop_at x rest 16 len))
+  ]
+
+gctr_twice_up_to : (n : ℕ) (key counter text : List ℕ) → length text ≤ n → gctr key counter (gctr key counter text) ≡ text
+gctr_twice_up_to zero key counter text short =
+    let none : length text ≡ 0 = omega arith in
+    ap (gctr key counter) (gctr-nil key counter text none) ∙ gctr-nil key counter [] refl ∙ sym (nil_from_length text none)
+gctr_twice_up_to (suc n) key counter text short = elim (cases_lt 0 (length text)) [
+    inl some ↦
+        (let mask = cipher key counter in
+         let x = xor_bytes (take 16 text) mask in
+         let rest = gctr key (inc32 counter) (drop 16 text) in
+         let parts = first_added text x rest (length-xor_bytes (take 16 text) mask) (λ (s : length text ≤ 16). gctr-nil key (inc32 counter) (drop 16 text) (omega (arith, length-drop 16 text))) in
+         let len : 0 < length (x ++ rest) = omega (arith, length-append x rest, length-xor_bytes (take 16 text) mask, length-take 16 text) in
+         let again : gctr key (inc32 counter) rest ≡ drop 16 text = gctr_twice_up_to n key (inc32 counter) (drop 16 text) (omega (arith, length-drop 16 text)) in
+         ap (gctr key counter) (gctr-more key counter text some)
+         ∙ gctr-more key counter (x ++ rest) len
+         ∙ (λ i. xor_bytes (parts.0 i) mask ++ gctr key (inc32 counter) (parts.1 i))
+         ∙ (λ i. xor_twice (take 16 text) mask i ++ again i)
+         ∙ take-append-drop 16 text)
+  | inr none ↦
+        (let empty : length text ≡ 0 = omega arith in
+         ap (gctr key counter) (gctr-nil key counter text empty) ∙ gctr-nil key counter [] refl ∙ sym (nil_from_length text empty))
+  ]
+
+pub plain_twice : (key iv text : List ℕ) → plain key iv (plain key iv text) ≡ text
+unfolding plain
+plain_twice key iv text = gctr_twice_up_to (length text) key (inc32 (before_first iv)) text (omega arith)

@@ -1,12 +1,13 @@
 -- The bytes of a block, the word that they are, and its coefficients.
 use Rattle.std.proofs.Common.{◌≡◌, ℕ, ◌+◌, ◌-◌, ◌*◌, ◌/◌, ◌%◌, ◌^◌, ◌<◌, ◌≤◌, suc, zero, List, [], ◌∷◌, ◌++◌, length, get_or, drop, replicate, refl, ap, sym, ◌∙◌, arith}
-use Rattle.std.proofs.lemmas.List.{length-append, length-replicate, drop-replicate}
-use Rattle.std.specs.Int.{bit_at, byte_at, bytes_high_first, to_be_bytes, from_be_bytes, w128}
+use Rattle.std.proofs.lemmas.List.{length-append, length-replicate, drop-replicate, append-nil}
+use borrow.Rule.Slice.PartMut.{put_mid}
+use Rattle.std.specs.Int.{bit_at, byte_at, bytes_high_first, to_be_bytes, from_be_bytes, w64, w128}
 use Rattle.std.proofs.Math.Nat.{pow-suc, div-div-eq-div-mul}
-use Rattle.std.proofs.lemmas.Nat.{shr-shr}
+use Rattle.std.proofs.lemmas.Nat.{shr-shr, mod_below}
 use Rattle.std.proofs.lemmas.Nat.Bits.{bit_at_cat_low}
 use Rattle.snp_model.specs.Polynomials.{byte_coefficients, bytes_of, coefficients}
-use Rattle.snp_model.specs.Gcm.{padded}
+use Rattle.snp_model.specs.Gcm.{lengths_block, padded}
 use Rattle.gcm_seal.specs.Words.{bits_below, word_coefficients}
 
 byte_power : (k : ℕ) → 256 ^ k ≡ 2 ^ (8 * k)
@@ -133,3 +134,29 @@ padded_word_is block front n short small is_front is =
     let whole : front ++ drop (length block) (replicate 16 0) ≡ block ++ zeros = ap (λ l. l ++ drop (length block) (replicate 16 0)) is_front ∙ ap (λ l. block ++ l) (drop-replicate (length block) 16 0) in
     let len : length (block ++ zeros) ≡ 16 = omega (arith, length-append block zeros, length-replicate {A = ℕ} (16 - length block) 0) in
     word_from_bytes (block ++ zeros) n len (small-append block zeros small (small-zeros (16 - length block))) (is ∙ ap (from_be_bytes w128) whole)
+
+byte_at-small : (k n : ℕ) → byte_at k n < 256
+byte_at-small zero n = omega arith
+byte_at-small (suc k) n = mod_below (n / 256 ^ suc k) 256 (omega arith)
+
+small-bytes : (k n i : ℕ) → get_or (bytes_high_first k n) i 0 < 256
+small-bytes zero n i = omega arith
+small-bytes (suc k) n zero = byte_at-small k n
+small-bytes (suc k) n (suc i) = small-bytes k n i
+
+-- the word of the two lengths, written over the halves of sixteen zero bytes
+pub lengths_word_is : (aad text front back : List ℕ) (n : ℕ) → front ≡ to_be_bytes w64 (8 * length aad) → back ≡ to_be_bytes w64 (8 * length text) → n ≡ from_be_bytes w128 (put_mid 8 8 (front ++ 0 ∷ 0 ∷ 0 ∷ 0 ∷ 0 ∷ 0 ∷ 0 ∷ 0 ∷ []) back) → word_coefficients n ≡ coefficients (lengths_block aad text)
+unfolding lengths_block
+lengths_word_is aad text front back n is_front is_back is =
+    let a = to_be_bytes w64 (8 * length aad) in
+    let t = to_be_bytes w64 (8 * length text) in
+    let zeros : List ℕ = 0 ∷ 0 ∷ 0 ∷ 0 ∷ 0 ∷ 0 ∷ 0 ∷ 0 ∷ [] in
+    let whole : put_mid 8 8 (front ++ zeros) back ≡ a ++ t = ap (λ f. put_mid 8 8 (f ++ zeros) back) is_front ∙ ap (λ b. a ++ b) (append-nil back ∙ is_back) in
+    word_from_bytes (a ++ t) n refl (small-append a t (small-bytes 8 (8 * length aad)) (small-bytes 8 (8 * length text))) (is ∙ ap (from_be_bytes w128) whole)
+
+-- a whole block needs no filling
+pub padded-full : (block : List ℕ) → length block ≡ 16 → padded block ≡ block
+unfolding padded
+padded-full block full =
+    let none : 16 - length block ≡ 0 = omega arith in
+    ap (λ n. block ++ replicate n 0) none ∙ append-nil block

@@ -1,9 +1,11 @@
 //! GHASH (SP 800-38D, section 6.4) of the AAD, the ciphertext and their lengths, on words of 128 bits.
 
 ghost use Rattle.std.specs.Prelude.{◌≡◌, ◌≤◌, length, map};
-ghost use Rattle.snp_model.specs.Polynomials.{coefficients};
-ghost use Rattle.snp_model.specs.Gcm.{blocks, ghash, padded};
+ghost use Rattle.snp_model.specs.Polynomials.{coefficients, zero_polynomial};
+ghost use Rattle.snp_model.specs.Gcm.{blocks, ghash, hash_subkey, hashed, lengths_block, padded};
 ghost use Rattle.gcm_seal.specs.Words.{word_coefficients};
+
+use aes_block::Key256;
 
 use crate::polynomial::product_of;
 
@@ -30,4 +32,36 @@ fn absorbed(hash_key: u128, start: u128, text: &[u8]) -> u128
         at = end;
     }
     state
+}
+
+/// The block of the lengths of the AAD and the ciphertext, in bits, as a word.
+fn lengths_word(aad: &[u8], text: &[u8]) -> u128
+    requires aad { length aad.now ≤ 65536 }
+    requires text { length text.now ≤ 65536 }
+    ensures { word_coefficients result ≡ coefficients (lengths_block aad.now text.now) }
+{
+    let mut bytes = [0; 16];
+    bytes[..8].copy_from_slice(&(8 * aad.len() as u64).to_be_bytes());
+    bytes[8..].copy_from_slice(&(8 * text.len() as u64).to_be_bytes());
+    u128::from_be_bytes(bytes)
+}
+
+/// The hash subkey, as a word.
+pub(crate) fn hash_subkey(key: &Key256) -> u128
+    ensures { word_coefficients result ≡ hash_subkey key.now }
+{
+    let mut block = [0; 16];
+    key.encrypt(&mut block);
+    padded_word(&block)
+}
+
+/// The hash of AAD and a ciphertext, as a word.
+pub(crate) fn hash_of(hash_key: u128, aad: &[u8], text: &[u8]) -> u128
+    requires aad { length aad.now ≤ 65536 }
+    requires text { length text.now ≤ 65536 }
+    ensures { word_coefficients result ≡ ghash (word_coefficients hash_key) zero_polynomial (hashed aad.now text.now) }
+{
+    let after_aad = absorbed(hash_key, 0, aad);
+    let after_text = absorbed(hash_key, after_aad, text);
+    product_of(after_text ^ lengths_word(aad, text), hash_key)
 }

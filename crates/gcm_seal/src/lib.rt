@@ -4,3 +4,6 @@
 mod counter;
 mod hash;
 mod polynomial;
+mod sealing;
+
+pub use sealing::{TagDiffers, seal, unseal, unsealing_undoes_sealing};
