@@ -1,6 +1,6 @@
 -- AES-256: the cipher of FIPS 197 for keys of 256 bits (Nk = 8, Nr = 14), with the standard's section numbers.
 -- A byte is a number below 256, a word a list of 4 bytes, a block and the state a list of 16 bytes.
-use Rattle.std.specs.Prelude.{ℕ, zero, suc, ◌+◌, ◌-◌, ◌*◌, ◌/◌, ◌%◌, ◌==◌, if◌then◌else◌, List, [], ◌∷◌, ◌++◌, slice_index, slice_index_or, slice_range}
+use Rattle.std.specs.Prelude.{ℕ, zero, suc, ◌+◌, ◌-◌, ◌*◌, ◌/◌, ◌%◌, ◌==◌, if◌then◌else◌, List, [], ◌∷◌, ◌++◌, slice_index, slice_index_or}
 use Rattle.snp_model.specs.AesField.{◌⊕◌, ◌•◌, s_box}
 
 -- the byte in row r, column c of the state: the block's bytes fill it column by column (3.4)
@@ -35,9 +35,13 @@ mixed_column a b c d =
 unfoldable pub mix_columns : List ℕ → List ℕ
 mix_columns s = state_of (λ r c. slice_index (mixed_column (at s 0 c) (at s 1 c) (at s 2 c) (at s 3 c)) r)
 
--- AddRoundKey: byte r of the word c of the round key is added in row r, column c (5.1.4)
-unfoldable pub add_round_key : List ℕ → List (List ℕ) → List ℕ
-add_round_key s key = state_of (λ r c. at s r c ⊕ slice_index (slice_index_or key c []) r)
+-- word i of a key schedule
+abbrev pub word : List (List ℕ) → ℕ → List ℕ
+word w i = slice_index_or w i []
+
+-- AddRoundKey: the word 4 * round + c of the key schedule is added to column c (5.1.4)
+unfoldable pub add_round_key : List ℕ → List (List ℕ) → ℕ → List ℕ
+add_round_key s w round = state_of (λ r c. at s r c ⊕ slice_index (word w (4 * round + c)) r)
 
 -- the word whose byte i is f i
 abbrev pub word_of : (ℕ → ℕ) → List ℕ
@@ -72,7 +76,7 @@ key_mask i previous =
 
 -- word i of the key schedule from the words before it (5.2)
 abbrev pub next_word : List (List ℕ) → ℕ → List ℕ
-next_word w i = add_words (slice_index_or w (i - 8) []) (key_mask i (slice_index_or w (i - 1) []))
+next_word w i = add_words (word w (i - 8)) (key_mask i (word w (i - 1)))
 
 -- the word whose bytes stand in the key from byte 4 * i on (5.2)
 abbrev pub key_word : List ℕ → ℕ → List ℕ
@@ -89,18 +93,13 @@ expanded key (suc n) = let w = expanded key n in w ++ next_word w (8 + n) ∷ []
 unfoldable pub key_expansion : List ℕ → List (List ℕ)
 key_expansion key = expanded key 52
 
--- the round key n: the words 4 * n to 4 * n + 3 of the key schedule (5.1.4)
-abbrev pub round_key : List (List ℕ) → ℕ → List (List ℕ)
-round_key w n = slice_range w (4 * n) (4 * n + 4)
-
 -- the state after the first AddRoundKey and n of the rounds with MixColumns (5.1)
 unfoldable pub rounds : List (List ℕ) → List ℕ → ℕ → List ℕ
-rounds w block zero = add_round_key block (round_key w 0)
-rounds w block (suc n) =
-    add_round_key (mix_columns (shift_rows (sub_bytes (rounds w block n)))) (round_key w (suc n))
+rounds w block zero = add_round_key block w 0
+rounds w block (suc n) = add_round_key (mix_columns (shift_rows (sub_bytes (rounds w block n)))) w (suc n)
 
 -- Cipher: the block after the 14 rounds, the last of them without MixColumns (5.1)
 unfoldable pub cipher : List ℕ → List ℕ → List ℕ
 cipher key block =
     let w = key_expansion key in
-    add_round_key (shift_rows (sub_bytes (rounds w block 13))) (round_key w 14)
+    add_round_key (shift_rows (sub_bytes (rounds w block 13))) w 14
