@@ -1,9 +1,9 @@
 -- The rounds on columns are the rounds on the state.
-use Rattle.std.proofs.Common.{◌≡◌, ℕ, ◌+◌, ◌*◌, ◌<◌, List, [], ◌∷◌, length, slice_index, slice_index_or, bit_xor, refl, sym, ap, ◌∙◌, arith}
+use Rattle.std.proofs.Common.{◌≡◌, ℕ, ◌+◌, ◌-◌, ◌*◌, ◌<◌, ◌≤◌, List, [], ◌∷◌, length, slice_index, slice_index_or, bit_xor, refl, sym, ap, ◌∙◌, arith, add-one}
 use Rattle.std.proofs.lemmas.List.{get_or-map}
 use Rattle.std.specs.Int.{w32, to_be_bytes}
 use Rattle.snp_model.specs.AesField.{s_box}
-use Rattle.snp_model.specs.Aes.{state_of, word, add_words, mixed_column, sub_bytes, shift_rows, mix_columns, add_round_key}
+use Rattle.snp_model.specs.Aes.{state_of, word, add_words, mixed_column, sub_bytes, shift_rows, mix_columns, add_round_key, key_expansion, rounds, cipher}
 use Rattle.aes_block.specs.Columns.{state_of_columns, words_of}
 use Rattle.aes_block.proofs.Words.{sum_is}
 
@@ -91,3 +91,26 @@ pub block_is : (state f g h k : List ℕ)
     → from_columns f g h k ≡ state_of_columns state
 unfolding state_of_columns
 block_is state f g h k ef eg eh ek = λ i. from_columns (ef i) (eg i) (eh i) (ek i)
+
+rounds_next : (w : List (List ℕ)) (block : List ℕ) (n : ℕ) → rounds w block (n + 1) ≡ add_round_key (mix_columns (shift_rows (sub_bytes (rounds w block n)))) w (n + 1)
+unfolding rounds
+rounds_next w block n = rw add-one refl
+
+-- one more round, from the state before it
+pub one_more_round : (w : List (List ℕ)) (block state next : List ℕ) (n : ℕ) → 1 ≤ n → state_of_columns state ≡ rounds w block (n - 1)
+    → state_of_columns next ≡ add_round_key (mix_columns (shift_rows (sub_bytes (state_of_columns state)))) w n
+    → state_of_columns next ≡ rounds w block (n + 1 - 1)
+one_more_round w block state next n h is en =
+    en ∙ ap (λ (s : List ℕ). add_round_key (mix_columns (shift_rows (sub_bytes s))) w n) is
+    ∙ ap (add_round_key (mix_columns (shift_rows (sub_bytes (rounds w block (n - 1))))) w) (omega arith)
+    ∙ sym (rounds_next w block (n - 1)) ∙ ap (rounds w block) (omega arith)
+
+pub no_round : (w : List (List ℕ)) (block : List ℕ) → rounds w block 0 ≡ add_round_key block w 0
+unfolding rounds
+no_round w block = refl
+
+-- the 14 rounds under the key schedule are the cipher
+pub cipher_is : (w : List (List ℕ)) (key block : List ℕ) → w ≡ key_expansion key
+    → add_round_key (shift_rows (sub_bytes (rounds w block 13))) w 14 ≡ cipher key block
+unfolding cipher
+cipher_is w key block is = ap (λ (v : List (List ℕ)). add_round_key (shift_rows (sub_bytes (rounds v block 13))) v 14) is

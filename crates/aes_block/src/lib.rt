@@ -2,5 +2,9 @@
 #![tactic(auto)]
 
 mod columns;
+mod key;
 mod rounds;
+mod schedule;
 mod tables;
+
+pub use key::Key256;

@@ -2,12 +2,12 @@
 
 ghost use Rattle.std.specs.Prelude.{◌≡◌, ◌<◌};
 ghost use Rattle.aes_block.specs.Columns.{state_of_columns, words_of};
-ghost use Rattle.snp_model.specs.Aes.{add_round_key, mix_columns, shift_rows, sub_bytes};
+ghost use Rattle.snp_model.specs.Aes.{add_round_key, mix_columns, rounds, shift_rows, sub_bytes};
 
 use crate::columns::{mixed_column, substituted_column, word_of};
 
 /// The state after the first AddRoundKey.
-pub(crate) fn first_state(block: &[u8; 16], schedule: &[u32; 60]) -> [u32; 4]
+fn first_state(block: &[u8; 16], schedule: &[u32; 60]) -> [u32; 4]
     ensures { state_of_columns result ≡ add_round_key block.now (words_of schedule.now) 0 }
 {
     [
@@ -19,7 +19,7 @@ pub(crate) fn first_state(block: &[u8; 16], schedule: &[u32; 60]) -> [u32; 4]
 }
 
 /// The state after a round with MixColumns.
-pub(crate) fn middle_round(state: [u32; 4], schedule: &[u32; 60], round: usize) -> [u32; 4]
+fn middle_round(state: [u32; 4], schedule: &[u32; 60], round: usize) -> [u32; 4]
     requires { round < 15 }
     ensures { state_of_columns result
         ≡ add_round_key (mix_columns (shift_rows (sub_bytes (state_of_columns state)))) (words_of schedule.now) round }
@@ -38,7 +38,7 @@ pub(crate) fn middle_round(state: [u32; 4], schedule: &[u32; 60], round: usize) 
 }
 
 /// The state after the last round, which is without MixColumns.
-pub(crate) fn last_round(state: [u32; 4], schedule: &[u32; 60]) -> [u32; 4]
+fn last_round(state: [u32; 4], schedule: &[u32; 60]) -> [u32; 4]
     ensures { state_of_columns result
         ≡ add_round_key (shift_rows (sub_bytes (state_of_columns state))) (words_of schedule.now) 14 }
 {
@@ -55,7 +55,7 @@ pub(crate) fn last_round(state: [u32; 4], schedule: &[u32; 60]) -> [u32; 4]
 }
 
 /// The bytes of the state, column by column.
-pub(crate) fn block_of(state: [u32; 4]) -> [u8; 16]
+fn block_of(state: [u32; 4]) -> [u8; 16]
     ensures { result ≡ state_of_columns state }
 {
     let [a, b, c, d] = state[0].to_be_bytes();
@@ -63,4 +63,17 @@ pub(crate) fn block_of(state: [u32; 4]) -> [u8; 16]
     let [i, j, k, l] = state[2].to_be_bytes();
     let [m, n, o, p] = state[3].to_be_bytes();
     [a, b, c, d, e, f, g, h, i, j, k, l, m, n, o, p]
+}
+
+/// The block after the 14 rounds under the key schedule.
+pub(crate) fn enciphered(block: &[u8; 16], schedule: &[u32; 60]) -> [u8; 16]
+    ensures { result
+        ≡ add_round_key (shift_rows (sub_bytes (rounds (words_of schedule.now) block.now 13))) (words_of schedule.now) 14 }
+{
+    let mut state = first_state(block, schedule);
+    'rounds: for round in 1..14 {
+        let next = middle_round(state, schedule, round);
+        state = next;
+    }
+    block_of(last_round(state, schedule))
 }

@@ -1,6 +1,6 @@
 -- AES-256: the cipher of FIPS 197 for keys of 256 bits (Nk = 8, Nr = 14), with the standard's section numbers.
 -- A byte is a number below 256, a word a list of 4 bytes, a block and the state a list of 16 bytes.
-use Rattle.std.specs.Prelude.{ℕ, zero, suc, ◌+◌, ◌-◌, ◌*◌, ◌/◌, ◌%◌, ◌==◌, if◌then◌else◌, List, [], ◌∷◌, ◌++◌, slice_index, slice_index_or}
+use Rattle.std.specs.Prelude.{ℕ, zero, suc, ◌+◌, ◌-◌, ◌*◌, ◌/◌, ◌%◌, ◌==◌, nat_lt, if◌then◌else◌, List, [], ◌∷◌, ◌++◌, slice_index, slice_index_or}
 use Rattle.snp_model.specs.AesField.{◌⊕◌, ◌•◌, s_box}
 
 -- the byte in row r, column c of the state: the block's bytes fill it column by column (3.4)
@@ -74,24 +74,20 @@ key_mask i previous =
     else if i % 8 == 4 then sub_word previous
     else previous
 
--- word i of the key schedule from the words before it (5.2)
-abbrev pub next_word : List (List ℕ) → ℕ → List ℕ
-next_word w i = add_words (word w (i - 8)) (key_mask i (word w (i - 1)))
+-- word i of the key schedule, from the words before it: the first 8 are the key (5.2)
+abbrev pub next_word : List ℕ → List (List ℕ) → ℕ → List ℕ
+next_word key w i =
+    if nat_lt i 8 then word_of (λ k. slice_index key (4 * i + k))
+    else add_words (word w (i - 8)) (key_mask i (word w (i - 1)))
 
--- the word whose bytes stand in the key from byte 4 * i on (5.2)
-abbrev pub key_word : List ℕ → ℕ → List ℕ
-key_word key i = word_of (λ k. slice_index key (4 * i + k))
-
--- the first 8 + n words of the key schedule (5.2)
-unfoldable pub expanded : List ℕ → ℕ → List (List ℕ)
-expanded key zero =
-    key_word key 0 ∷ key_word key 1 ∷ key_word key 2 ∷ key_word key 3 ∷
-    key_word key 4 ∷ key_word key 5 ∷ key_word key 6 ∷ key_word key 7 ∷ []
-expanded key (suc n) = let w = expanded key n in w ++ next_word w (8 + n) ∷ []
+-- the first n words of the key schedule (5.2)
+unfoldable pub first_words : List ℕ → ℕ → List (List ℕ)
+first_words key zero = []
+first_words key (suc n) = let w = first_words key n in w ++ next_word key w n ∷ []
 
 -- KeyExpansion: the 60 words of the key schedule (5.2)
 unfoldable pub key_expansion : List ℕ → List (List ℕ)
-key_expansion key = expanded key 52
+key_expansion key = first_words key 60
 
 -- the state after the first AddRoundKey and n of the rounds with MixColumns (5.1)
 unfoldable pub rounds : List (List ℕ) → List ℕ → ℕ → List ℕ
