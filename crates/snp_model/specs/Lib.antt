@@ -1,4 +1,5 @@
-pub mod Aes
 pub mod Facts
+pub mod AesField
+pub mod Aes
 pub mod Polynomials
 pub mod Gcm
