@@ -5,5 +5,7 @@ mod counter;
 mod hash;
 mod polynomial;
 mod sealing;
+#[cfg(test)]
+mod tests;
 
 pub use sealing::{TagDiffers, seal, unseal, unsealing_undoes_sealing};
