@@ -1,5 +1,5 @@
 -- The blocks of a string, one at a time.
-use Rattle.std.proofs.Common.{◌≡◌, ℕ, ◌+◌, ◌-◌, ◌*◌, ◌/◌, ◌%◌, ◌^◌, ◌<◌, ◌≤◌, suc, zero, List, [], ◌∷◌, ◌++◌, length, min, map, get_or, set, take, drop, refl, ap, sym, inl, inr, ◌∙◌, arith}
+use Rattle.std.proofs.Common.{◌≡◌, ℕ, ◌+◌, ◌-◌, ◌/◌, ◌%◌, ◌^◌, ◌<◌, ◌≤◌, suc, zero, List, [], ◌∷◌, ◌++◌, length, min, map, get_or, set, take, drop, refl, ap, sym, inl, inr, ◌∙◌, arith}
 use Rattle.std.proofs.lemmas.List.{append-nil, length-drop, nil_from_length, take-append-drop, length-append, append_assoc, take_all, drop_all, length-take, take_min, drop_min, drop-drop, drop_more, drop-set-lt, take_more_set, take_at, drop_at}
 use Rattle.std.proofs.lemmas.Nat.{from_be_bytes-to_be_bytes_4}
 use Rattle.std.specs.Int.{w32, w128, to_be_bytes, from_be_bytes}
@@ -167,37 +167,38 @@ tag_is key iv aad text now h hash is_h is_hash is =
 -- a block that is added, and the rest after it: where the block is short, nothing follows
 first_added : (text x rest : List ℕ) → length x ≡ length (take 16 text) → (length text ≤ 16 → rest ≡ []) → (take 16 (x ++ rest) ≡ x) × (drop 16 (x ++ rest) ≡ rest)
 first_added text x rest same none = elim (cases_lt (length text) 17) [
-    inl short ↦
-        (let empty : rest ≡ [] = none (omega arith) in
-         let len : length (x ++ []) ≤ 16 = omega (arith, length-append x [], length-take 16 text) in
-         (ap (λ r. take 16 (x ++ r)) empty ∙ take_all 16 (x ++ []) len ∙ append-nil x,
-          ap (λ r. drop 16 (x ++ r)) empty ∙ drop_all 16 (x ++ []) len ∙ sym empty))
+  | inl short ↦
+      (let empty : rest ≡ [] = none (omega arith) in
+      let len : length (x ++ []) ≤ 16 = omega (arith, length-append x [], length-take 16 text) in (
+        ap (λ r. take 16 (x ++ r)) empty ∙ take_all 16 (x ++ []) len ∙ append-nil x,
+        ap (λ r. drop 16 (x ++ r)) empty ∙ drop_all 16 (x ++ []) len ∙ sym empty,
+      ))
   | inr long ↦
-        (let len : length x ≡ 16 = omega (arith, length-take 16 text) in
-         (take_at x rest 16 len, drop_at x rest 16 len))
-  ]
+      (let len : length x ≡ 16 = omega (arith, length-take 16 text) in
+      (take_at x rest 16 len, drop_at x rest 16 len))
+]
 
 gctr_twice_up_to : (n : ℕ) (key counter text : List ℕ) → length text ≤ n → gctr key counter (gctr key counter text) ≡ text
 gctr_twice_up_to zero key counter text short =
     let none : length text ≡ 0 = omega arith in
     ap (gctr key counter) (gctr-nil key counter text none) ∙ gctr-nil key counter [] refl ∙ sym (nil_from_length text none)
 gctr_twice_up_to (suc n) key counter text short = elim (cases_lt 0 (length text)) [
-    inl some ↦
-        (let mask = cipher key counter in
-         let x = xor_bytes (take 16 text) mask in
-         let rest = gctr key (inc32 counter) (drop 16 text) in
-         let parts = first_added text x rest (length-xor_bytes (take 16 text) mask) (λ (s : length text ≤ 16). gctr-nil key (inc32 counter) (drop 16 text) (omega (arith, length-drop 16 text))) in
-         let len : 0 < length (x ++ rest) = omega (arith, length-append x rest, length-xor_bytes (take 16 text) mask, length-take 16 text) in
-         let again : gctr key (inc32 counter) rest ≡ drop 16 text = gctr_twice_up_to n key (inc32 counter) (drop 16 text) (omega (arith, length-drop 16 text)) in
-         ap (gctr key counter) (gctr-more key counter text some)
-         ∙ gctr-more key counter (x ++ rest) len
-         ∙ (λ i. xor_bytes (parts.0 i) mask ++ gctr key (inc32 counter) (parts.1 i))
-         ∙ (λ i. xor_twice (take 16 text) mask i ++ again i)
-         ∙ take-append-drop 16 text)
+  | inl some ↦
+      (let mask = cipher key counter in
+      let x = xor_bytes (take 16 text) mask in
+      let rest = gctr key (inc32 counter) (drop 16 text) in
+      let parts = first_added text x rest (length-xor_bytes (take 16 text) mask) (λ (s : length text ≤ 16). gctr-nil key (inc32 counter) (drop 16 text) (omega (arith, length-drop 16 text))) in
+      let len : 0 < length (x ++ rest) = omega (arith, length-append x rest, length-xor_bytes (take 16 text) mask, length-take 16 text) in
+      let again : gctr key (inc32 counter) rest ≡ drop 16 text = gctr_twice_up_to n key (inc32 counter) (drop 16 text) (omega (arith, length-drop 16 text)) in
+      ap (gctr key counter) (gctr-more key counter text some)
+      ∙ gctr-more key counter (x ++ rest) len
+      ∙ (λ i. xor_bytes (parts.0 i) mask ++ gctr key (inc32 counter) (parts.1 i))
+      ∙ (λ i. xor_twice (take 16 text) mask i ++ again i)
+      ∙ take-append-drop 16 text)
   | inr none ↦
-        (let empty : length text ≡ 0 = omega arith in
-         ap (gctr key counter) (gctr-nil key counter text empty) ∙ gctr-nil key counter [] refl ∙ sym (nil_from_length text empty))
-  ]
+      (let empty : length text ≡ 0 = omega arith in
+      ap (gctr key counter) (gctr-nil key counter text empty) ∙ gctr-nil key counter [] refl ∙ sym (nil_from_length text empty))
+]
 
 pub plain_twice : (key iv text : List ℕ) → plain key iv (plain key iv text) ≡ text
 unfolding plain

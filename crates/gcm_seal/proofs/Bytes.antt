@@ -5,7 +5,6 @@ use borrow.Rule.Slice.PartMut.{put_mid}
 use Rattle.std.specs.Int.{bit_at, byte_at, bytes_high_first, to_be_bytes, from_be_bytes, w64, w128}
 use Rattle.std.proofs.Math.Nat.{pow-suc, div-div-eq-div-mul}
 use Rattle.std.proofs.lemmas.Nat.{shr-shr, mod_below}
-use Rattle.std.proofs.lemmas.Nat.Bits.{bit_at_cat_low}
 use Rattle.snp_model.specs.Polynomials.{byte_coefficients, bytes_of, coefficients}
 use Rattle.snp_model.specs.Gcm.{lengths_block, padded}
 use Rattle.gcm_seal.specs.Words.{bits_below, word_coefficients}

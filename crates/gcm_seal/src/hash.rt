@@ -5,9 +5,8 @@ ghost use Rattle.snp_model.specs.Polynomials.{coefficients, zero_polynomial};
 ghost use Rattle.snp_model.specs.Gcm.{blocks, ghash, hash_subkey, hashed, lengths_block, padded};
 ghost use Rattle.gcm_seal.specs.Words.{word_coefficients};
 
+use crate::hash_key::HashKey;
 use aes_block::Key256;
-
-use crate::polynomial::product_of;
 
 /// A block of up to 16 bytes, filled up with zero bytes, as a word.
 fn padded_word(block: &[u8]) -> u128
@@ -20,15 +19,15 @@ fn padded_word(block: &[u8]) -> u128
 }
 
 /// The state after the blocks of a string.
-fn absorbed(hash_key: u128, start: u128, text: &[u8]) -> u128
+fn absorbed(hash_key: &HashKey, start: u128, text: &[u8]) -> u128
     requires { length text.now ≤ 65536 }
-    ensures { word_coefficients result ≡ ghash (word_coefficients hash_key) (word_coefficients start) (map padded (blocks text.now)) }
+    ensures { word_coefficients result ≡ ghash (word_coefficients hash_key.now) (word_coefficients start) (map padded (blocks text.now)) }
 {
     let mut state = start;
     let mut at = 0;
     while at < text.len() {
         let end = text.len().min(at + 16);
-        state = product_of(state ^ padded_word(&text[at..end]), hash_key);
+        state = hash_key.times(state ^ padded_word(&text[at..end]));
         at = end;
     }
     state
@@ -56,12 +55,12 @@ pub(crate) fn hash_subkey(key: &Key256) -> u128
 }
 
 /// The hash of AAD and a ciphertext, as a word.
-pub(crate) fn hash_of(hash_key: u128, aad: &[u8], text: &[u8]) -> u128
+pub(crate) fn hash_of(hash_key: &HashKey, aad: &[u8], text: &[u8]) -> u128
     requires aad { length aad.now ≤ 65536 }
     requires text { length text.now ≤ 65536 }
-    ensures { word_coefficients result ≡ ghash (word_coefficients hash_key) zero_polynomial (hashed aad.now text.now) }
+    ensures { word_coefficients result ≡ ghash (word_coefficients hash_key.now) zero_polynomial (hashed aad.now text.now) }
 {
     let after_aad = absorbed(hash_key, 0, aad);
     let after_text = absorbed(hash_key, after_aad, text);
-    product_of(after_text ^ lengths_word(aad, text), hash_key)
+    hash_key.times(after_text ^ lengths_word(aad, text))
 }

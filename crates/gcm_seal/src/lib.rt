@@ -3,6 +3,7 @@
 
 mod counter;
 mod hash;
+mod hash_key;
 mod polynomial;
 mod sealing;
 #[cfg(test)]

@@ -3,10 +3,10 @@
 ghost use Rattle.std.specs.Prelude.{◌≡◌, ◌≤◌, ℕ, List, length, IsOk, OnOk, OnErr, IfErr};
 ghost use Rattle.snp_model.specs.Gcm.{plain, seal, tag};
 
-use aes_block::Key256;
-
 use crate::counter::add_ciphers;
 use crate::hash::{hash_of, hash_subkey};
+use crate::hash_key::HashKey;
+use aes_block::Key256;
 
 /// A tag that a ciphertext does not have.
 #[derive(Clone, Copy, Debug, PartialEq, Eq)]
@@ -23,7 +23,7 @@ fn tag_of(key: &Key256, iv: &[u8; 12], aad: &[u8], text: &[u8]) -> [u8; 16]
     requires text { length text.now ≤ 65536 }
     ensures { result ≡ tag key.now iv.now aad.now text.now }
 {
-    let hash = hash_of(hash_subkey(key), aad, text);
+    let hash = hash_of(&HashKey::new(hash_subkey(key)), aad, text);
     let mut tag = hash.to_be_bytes();
     add_ciphers(key, iv, 1, &mut tag);
     tag
@@ -79,5 +79,4 @@ pub fn unseal(
 pub fn unsealing_undoes_sealing()
     ensures tag { (key iv aad text : List ℕ) → let sealed = seal key iv aad text in tag key iv aad sealed.0 ≡ sealed.1 }
     ensures text { (key iv aad text : List ℕ) → plain key iv (seal key iv aad text).0 ≡ text }
-{
-}
+{}

@@ -7,7 +7,7 @@ use Rattle.gcm_seal.proofs.counter.add_ciphers.Given as goal
 abbrev pub invariant-loop-at : goal.invariant-loop-at
 invariant-loop-at l = record {
   inside : l.at ≤ length l.text;
-  same : take l.at l.text ++ gctr l.key (counter_block l.iv l.count) (drop l.at l.text) ≡ gctr l.key (counter_block l.iv l.first) l.initial.text
+  same : take l.at l.text ++ gctr l.key (counter_block l.iv l.count) (drop l.at l.text) ≡ gctr l.key (counter_block l.iv l.first) l.initial.text;
 }
 
 abbrev pub decreases-loop-at : goal.decreases-loop-at

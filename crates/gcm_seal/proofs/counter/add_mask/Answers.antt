@@ -1,4 +1,4 @@
-use Rattle.std.proofs.Common.{arith, refl, ◌≡◌, length, take, drop, sym, ◌∙◌, ap, ◌++◌, []}
+use Rattle.std.proofs.Common.{arith, refl, drop}
 use Rattle.gcm_seal.proofs.Blocks.{xor_step, xor_ends}
 use Rattle.gcm_seal.proofs.counter.add_mask.Goals as goal
 

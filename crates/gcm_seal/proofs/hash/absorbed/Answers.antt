@@ -1,14 +1,12 @@
-use Rattle.std.proofs.Common.{◌≡◌, arith, drop, length, ◌-◌, ◌≤◌, ap, ◌∙◌, sym}
+use Rattle.std.proofs.Common.{arith, drop, ◌∙◌, sym}
 use Rattle.std.proofs.lemmas.List.{length-drop}
-use Rattle.snp_model.specs.Gcm.{blocks, ghash, padded}
-use Rattle.gcm_seal.specs.Words.{word_coefficients}
 use Rattle.gcm_seal.proofs.Blocks.{ghash_steps, ghash-none}
 use Rattle.gcm_seal.proofs.hash.absorbed.Goals as goal
 
 pub loop-at-preserved : goal.loop-at-preserved
 loop-at-preserved c = record {
   inside = omega arith;
-  same = ghash_steps _ _ c.args.text.now c.loop-at.at c.min-end.result c.loop-at.state c.padded_word.result c.product_of-state.result (omega arith) c.min-end.ensures c.padded_word.ensures c.product_of-state.ensures c.loop-at.invariant.same
+  same = ghash_steps _ _ c.args.text.now c.loop-at.at c.min-end.result c.loop-at.state c.padded_word.result c.times-state.result (omega arith) c.min-end.ensures c.padded_word.ensures c.times-state.ensures c.loop-at.invariant.same;
 }
 
 pub returns : goal.returns

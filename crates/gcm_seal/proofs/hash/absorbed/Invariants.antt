@@ -8,7 +8,7 @@ abbrev pub invariant-loop-at : goal.invariant-loop-at
 invariant-loop-at l = record {
   inside : l.at ≤ length l.text;
   same : ghash (word_coefficients l.hash_key) (word_coefficients l.state) (map padded (blocks (drop l.at l.text)))
-    ≡ ghash (word_coefficients l.hash_key) (word_coefficients l.start) (map padded (blocks l.text))
+      ≡ ghash (word_coefficients l.hash_key) (word_coefficients l.start) (map padded (blocks l.text));
 }
 
 abbrev pub decreases-loop-at : goal.decreases-loop-at
