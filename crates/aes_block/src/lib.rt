@@ -7,4 +7,7 @@ mod rounds;
 mod schedule;
 mod tables;
 
+#[cfg(test)]
+mod tests;
+
 pub use key::Key256;
