@@ -15,3 +15,7 @@ times-inverse b some below =
     ∙ sym (value_at (λ n. n • inverse n) 1 255 (b - 1) 0 (omega arith))
     ∙ ap (λ (xs : List ℕ). get_or xs (b - 1) 0) products
     ∙ get_or-replicate 255 (b - 1) 1 0 (omega arith)
+
+pub inverse-zero : inverse 0 ≡ 0
+unfolding ◌•◌ times_low_bits times_squares inverse
+inverse-zero = refl

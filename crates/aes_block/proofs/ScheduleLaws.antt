@@ -31,7 +31,7 @@ key_mask_at_4 i previous f p e ef ep = ep ∙ ap sub_word ef ∙ sym (mask_at_4 
 
 first_words_next : (key : List ℕ) (n : ℕ) → first_words key (n + 1) ≡ first_words key n ++ next_word key (first_words key n) n ∷ []
 unfolding first_words
-first_words_next key n = rw (add-one) refl
+first_words_next key n = rw (add-one n) refl
 
 -- the schedule as far as word i
 abbrev pub IsSchedule : List ℕ → List ℕ → ℕ → Type 0

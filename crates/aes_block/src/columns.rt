@@ -15,7 +15,7 @@ pub(crate) fn word_of(a: u8, b: u8, c: u8, d: u8) -> u32
 }
 
 /// The S-box of a byte.
-pub(crate) fn substituted(byte: u8) -> u8
+fn substituted(byte: u8) -> u8
     ensures { result ≡ s_box byte }
 {
     S_BOX[byte as usize]

@@ -70,7 +70,7 @@ pub(crate) fn enciphered(block: &[u8; 16], schedule: &[u32; 60]) -> [u8; 16]
     ensures { result
         ≡ add_round_key (shift_rows (sub_bytes (rounds (words_of schedule.now) block.now 13))) (words_of schedule.now) 14 }
 {
-    // Written out: the compiler makes a slower body of a loop.
+    // Written out: a loop over the rounds takes a third longer.
     let state = first_state(block, schedule);
     let state = middle_round(state, schedule, 1);
     let state = middle_round(state, schedule, 2);
