@@ -8,11 +8,11 @@ use Rattle.aes_block.proofs.Words.{sum_is}
 use Rattle.aes_block.specs.declared.tables.TheConstants.{S_BOX, FIRST_ROW, SECOND_ROW, THIRD_ROW, FOURTH_ROW}
 
 -- f at n numbers, from `start` on
-values : {A : Type 0} → (ℕ → A) → ℕ → ℕ → List A
+unfoldable pub values : {A : Type 0} → (ℕ → A) → ℕ → ℕ → List A
 values f start zero = []
 values f start (suc n) = f start ∷ values f (start + 1) n
 
-value_at : {A : Type 0} (f : ℕ → A) (start n k : ℕ) (d : A) → k < n → get_or (values f start n) k d ≡ f (start + k)
+pub value_at : {A : Type 0} (f : ℕ → A) (start n k : ℕ) (d : A) → k < n → get_or (values f start n) k d ≡ f (start + k)
 unfolding values
 value_at f start zero k d h = absurd (omega arith)
 value_at f start (suc n) zero d h = ap f (omega arith)

@@ -1,5 +1,5 @@
 -- The rounds on columns are the rounds on the state.
-use Rattle.std.proofs.Common.{◌≡◌, ℕ, ◌+◌, ◌-◌, ◌*◌, ◌<◌, ◌≤◌, List, [], ◌∷◌, length, slice_index, slice_index_or, bit_xor, refl, sym, ap, ◌∙◌, arith, add-one}
+use Rattle.std.proofs.Common.{◌≡◌, ℕ, suc, ◌+◌, ◌*◌, ◌<◌, List, [], ◌∷◌, length, slice_index, slice_index_or, bit_xor, refl, sym, ap, ◌∙◌, arith}
 use Rattle.std.proofs.lemmas.List.{get_or-map}
 use Rattle.std.specs.Int.{w32, to_be_bytes}
 use Rattle.snp_model.specs.AesField.{s_box}
@@ -92,18 +92,12 @@ pub block_is : (state f g h k : List ℕ)
 unfolding state_of_columns
 block_is state f g h k ef eg eh ek = λ i. from_columns (ef i) (eg i) (eh i) (ek i)
 
-rounds_next : (w : List (List ℕ)) (block : List ℕ) (n : ℕ) → rounds w block (n + 1) ≡ add_round_key (mix_columns (shift_rows (sub_bytes (rounds w block n)))) w (n + 1)
-unfolding rounds
-rounds_next w block n = rw add-one refl
-
 -- one more round, from the state before it
-pub one_more_round : (w : List (List ℕ)) (block state next : List ℕ) (n : ℕ) → 1 ≤ n → state_of_columns state ≡ rounds w block (n - 1)
-    → state_of_columns next ≡ add_round_key (mix_columns (shift_rows (sub_bytes (state_of_columns state)))) w n
-    → state_of_columns next ≡ rounds w block (n + 1 - 1)
-one_more_round w block state next n h is en =
-    en ∙ ap (λ (s : List ℕ). add_round_key (mix_columns (shift_rows (sub_bytes s))) w n) is
-    ∙ ap (add_round_key (mix_columns (shift_rows (sub_bytes (rounds w block (n - 1))))) w) (omega arith)
-    ∙ sym (rounds_next w block (n - 1)) ∙ ap (rounds w block) (omega arith)
+pub one_more_round : (w : List (List ℕ)) (block : List ℕ) (n : ℕ) (state next : List ℕ) → state ≡ rounds w block n
+    → next ≡ add_round_key (mix_columns (shift_rows (sub_bytes state))) w (suc n) → next ≡ rounds w block (suc n)
+unfolding rounds
+one_more_round w block n state next is en =
+    en ∙ ap (λ (s : List ℕ). add_round_key (mix_columns (shift_rows (sub_bytes s))) w (suc n)) is
 
 pub no_round : (w : List (List ℕ)) (block : List ℕ) → rounds w block 0 ≡ add_round_key block w 0
 unfolding rounds

@@ -1,5 +1,5 @@
 -- The key schedule, a word at a time.
-use Rattle.std.proofs.Common.{◌≡◌, ℕ, ◌+◌, ◌-◌, ◌*◌, ◌/◌, ◌%◌, ◌<◌, ◌≤◌, List, [], ◌∷◌, ◌++◌, length, take, set, map, slice_index, bit_xor, refl, sym, ap, ◌∙◌, arith, add-one}
+use Rattle.std.proofs.Common.{◌≡◌, ℕ, ◌+◌, ◌-◌, ◌*◌, ◌/◌, ◌%◌, ◌<◌, ◌≤◌, List, [], ◌∷◌, ◌++◌, length, take, set, slice_index, bit_xor, refl, sym, ap, ◌∙◌, arith, add-one}
 use Rattle.std.proofs.lemmas.Bool.{lt-ltb, le-ltb}
 use Rattle.std.proofs.lemmas.List.{get_or-map, get_or-take, length-take-le, map-append, take_more_set}
 use Rattle.std.specs.Int.{w32, to_be_bytes}
@@ -31,7 +31,7 @@ key_mask_at_4 i previous f p e ef ep = ep ∙ ap sub_word ef ∙ sym (mask_at_4 
 
 first_words_next : (key : List ℕ) (n : ℕ) → first_words key (n + 1) ≡ first_words key n ++ next_word key (first_words key n) n ∷ []
 unfolding first_words
-first_words_next key n = rw add-one refl
+first_words_next key n = rw (add-one n) refl
 
 -- the schedule as far as word i
 abbrev pub IsSchedule : List ℕ → List ℕ → ℕ → Type 0
@@ -72,4 +72,4 @@ next_word_written key xs i m b h is em =
     let next : next_word key w i ≡ add_words (word w (i - 8)) (key_mask i (word w (i - 1))) = rw (le-ltb i 8 b) refl in
     word_written key xs i _ h is
     (sum_is (slice_index xs (i - 8)) m _ _ (earlier key xs i (i - 8) (omega arith) (omega arith) is)
-      (em ∙ ap (key_mask i) (earlier key xs i (i - 1) (omega arith) (omega arith) is)) ∙ sym next)
+    (em ∙ ap (key_mask i) (earlier key xs i (i - 1) (omega arith) (omega arith) is)) ∙ sym next)

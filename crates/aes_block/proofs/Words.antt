@@ -1,5 +1,5 @@
 -- Words by their bytes.
-use Rattle.std.proofs.Common.{◌≡◌, ℕ, List, [], ◌∷◌, ◌/◌, ◌%◌, ◌^◌, bit_xor, refl, ap, ◌∙◌}
+use Rattle.std.proofs.Common.{◌≡◌, ℕ, List, [], ◌∷◌, ◌/◌, ◌%◌, ◌^◌, bit_xor, ap, ◌∙◌}
 use Rattle.std.proofs.lemmas.Nat.{xor_shr, xor_mod}
 use Rattle.std.specs.Int.{w32, to_be_bytes}
 use Rattle.snp_model.specs.Aes.{add_words}

@@ -5,7 +5,7 @@ ghost use Rattle.std.specs.Int.{w32, to_be_bytes};
 ghost use Rattle.snp_model.specs.Aes.{add_words, mixed_column};
 ghost use Rattle.snp_model.specs.AesField.{s_box};
 
-use crate::tables::{FIRST_ROW, FOURTH_ROW, SECOND_ROW, S_BOX, THIRD_ROW};
+use crate::tables::{FIRST_ROW, FOURTH_ROW, S_BOX, SECOND_ROW, THIRD_ROW};
 
 /// The word of four bytes, the first of them the highest.
 pub(crate) fn word_of(a: u8, b: u8, c: u8, d: u8) -> u32
@@ -15,7 +15,7 @@ pub(crate) fn word_of(a: u8, b: u8, c: u8, d: u8) -> u32
 }
 
 /// The S-box of a byte.
-pub(crate) fn substituted(byte: u8) -> u8
+fn substituted(byte: u8) -> u8
     ensures { result ≡ s_box byte }
 {
     S_BOX[byte as usize]

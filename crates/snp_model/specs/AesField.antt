@@ -4,7 +4,6 @@ use Rattle.std.specs.Prelude.{ℕ, zero, suc, ◌+◌, ◌-◌, ◌*◌, ◌/◌
 
 infixl 70 ◌⊕◌
 infixl 75 ◌•◌
-
 -- the sum of two elements (4.1)
 abbrev pub ◌⊕◌ : ℕ → ℕ → ℕ
 a ⊕ b = bit_xor a b

@@ -1,4 +1,4 @@
-use Rattle.std.proofs.Common.{◌≡◌, ◌∙◌, length, sym, ap, refl, arith}
+use Rattle.std.proofs.Common.{◌≡◌, ◌∙◌, sym, ap, refl, arith}
 use Rattle.std.proofs.lemmas.List.{length-set, take_all}
 use Rattle.snp_model.specs.Aes.{first_words, key_expansion}
 use Rattle.aes_block.specs.Columns.{words_of}
