@@ -200,6 +200,6 @@ gctr_twice_up_to (suc n) key counter text short = elim (cases_lt 0 (length text)
       ap (gctr key counter) (gctr-nil key counter text empty) ∙ gctr-nil key counter [] refl ∙ sym (nil_from_length text empty))
 ]
 
-pub plain_twice : (key iv text : List ℕ) → plain key iv (plain key iv text) ≡ text
-unfolding plain
-plain_twice key iv text = gctr_twice_up_to (length text) key (inc32 (before_first iv)) text (omega arith)
+-- GCTR undoes itself
+pub gctr_twice : (key counter text : List ℕ) → gctr key counter (gctr key counter text) ≡ text
+gctr_twice key counter text = gctr_twice_up_to (length text) key counter text (omega arith)

@@ -38,7 +38,7 @@ fn add_keystream(key: &Key256, iv: &[u8; 12], text: &mut [u8])
 }
 
 /// Encrypts a text of at most 65,536 bytes in place under a 96-bit IV, and gives the tag of its ciphertext and as many bytes of AAD.
-#[tactic(auto, unfolding(snp_model::specs::Gcm::seal))]
+#[tactic(auto, unfolding(snp_model::specs::Gcm::seal, snp_model::specs::Gcm::plain))]
 pub fn seal(key: &Key256, iv: &[u8; 12], aad: &[u8], text: &mut [u8]) -> [u8; 16]
     requires aad { length aad.now ≤ 65536 }
     requires text { length text.old ≤ 65536 }
@@ -75,7 +75,7 @@ pub fn unseal(
 }
 
 /// To unseal what was sealed gives the text back: its tag is the one that was made, and its plaintext is the text.
-#[tactic(auto, using(crate::proofs::Blocks::plain_twice), unfolding(snp_model::specs::Gcm::seal))]
+#[tactic(auto, using(crate::proofs::Blocks::gctr_twice), unfolding(snp_model::specs::Gcm::seal, snp_model::specs::Gcm::plain))]
 pub fn unsealing_undoes_sealing()
     ensures tag { (key iv aad text : List ℕ) → let sealed = seal key iv aad text in tag key iv aad sealed.0 ≡ sealed.1 }
     ensures text { (key iv aad text : List ℕ) → plain key iv (seal key iv aad text).0 ≡ text }

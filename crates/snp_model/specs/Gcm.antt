@@ -27,7 +27,7 @@ xor_bytes (b ∷ block) (m ∷ mask) = bit_xor b m ∷ xor_bytes block mask
 unfoldable pub inc32 : List ℕ → List ℕ
 inc32 block = take 12 block ++ to_be_bytes w32 ((from_be_bytes w32 (drop 12 block) + 1) % 2 ^ 32)
 
--- GHASH: Y := (Y + X) * H over the blocks X, as polynomials, from the polynomial Y on (6.4)
+-- GHASH: Y := (Y + X) · H for each block X, as polynomials, from the polynomial Y on (6.4)
 unfoldable pub ghash : List ℕ → List ℕ → List (List ℕ) → List ℕ
 ghash h y [] = y
 ghash h y (x ∷ rest) = ghash h (product (plus y (coefficients x)) h) rest
@@ -53,7 +53,7 @@ before_first iv = iv ++ 0 ∷ 0 ∷ 0 ∷ 1 ∷ []
 unfoldable pub lengths_block : List ℕ → List ℕ → List ℕ
 lengths_block aad text = to_be_bytes w64 (8 * length aad) ++ to_be_bytes w64 (8 * length text)
 
--- what is hashed: the padded AAD, the padded ciphertext, and their lengths (7.1, steps 4 and 5)
+-- the blocks that are hashed: the padded AAD, the padded ciphertext, and their lengths (7.1, steps 4 and 5)
 unfoldable pub hashed : List ℕ → List ℕ → List (List ℕ)
 hashed aad text = map padded (blocks aad) ++ (map padded (blocks text) ++ lengths_block aad text ∷ [])
 
@@ -61,10 +61,10 @@ hashed aad text = map padded (blocks aad) ++ (map padded (blocks text) ++ length
 unfoldable pub tag : List ℕ → List ℕ → List ℕ → List ℕ → List ℕ
 tag key iv aad text = gctr key (before_first iv) (bytes_of (ghash (hash_subkey key) zero_polynomial (hashed aad text)))
 
--- the plaintext of a ciphertext, and the ciphertext of a plaintext (7.1, step 3)
-unfoldable pub plain : List ℕ → List ℕ → List ℕ → List ℕ
-plain key iv text = gctr key (inc32 (before_first iv)) text
-
--- the ciphertext and the tag of AAD and a plaintext (7.1)
+-- the ciphertext and the tag of AAD and a plaintext (7.1, steps 3 and 7)
 unfoldable pub seal : List ℕ → List ℕ → List ℕ → List ℕ → (List ℕ × List ℕ)
-seal key iv aad text = let sealed = plain key iv text in (sealed, tag key iv aad sealed)
+seal key iv aad text = let sealed = gctr key (inc32 (before_first iv)) text in (sealed, tag key iv aad sealed)
+
+-- the plaintext of a ciphertext (7.2, step 4)
+unfoldable pub plain : List ℕ → List ℕ → List ℕ → List ℕ
+plain key iv sealed = gctr key (inc32 (before_first iv)) sealed
