@@ -1,9 +1,12 @@
+pub mod Aes
+pub mod AesField
 pub mod Attempts
 pub mod CommandLine
 pub mod Ending
 pub mod EventText
 pub mod Facts
 pub mod Faults
+pub mod Gcm
 pub mod GuestMemory
 pub mod Holders
 pub mod ItemLines
@@ -15,6 +18,7 @@ pub mod NestedWalk
 pub mod Opening
 pub mod Operations
 pub mod Outside
+pub mod Polynomials
 pub mod Reading
 pub mod Report
 pub mod Room

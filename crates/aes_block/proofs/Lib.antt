@@ -1,0 +1,5 @@
+pub mod Words
+pub mod Entries
+pub mod RoundLaws
+pub mod ScheduleLaws
+pub mod FieldLaws
