@@ -1,1 +1,2 @@
 pub mod NestedReadsLaws
+pub mod GuestReadsLaws

@@ -3,6 +3,7 @@ use Rattle.std.proofs.Common.{◌≡◌, ◌≢◌, ℕ, zero, suc, ◌+◌, ◌
 use Rattle.std.specs.Prelude.{slice_get}
 use Rattle.std.specs.List.{All}
 use Rattle.std.proofs.lemmas.Bool.Decides.{nat_tests}
+use Rattle.std.proofs.lemmas.List.Elements.{All-nil, All-cons}
 use Rattle.snp_model.specs.declared.entry.PageSize.{PageSize}
 use Rattle.snp_model.specs.declared.walk.NestedPath.{NestedPath}
 use Rattle.snp_model.specs.declared.walk.NestedEnd.{NestedEnd}
@@ -227,10 +228,10 @@ step_permits : (path : NestedPath) (level word f i : ℕ) (words : List ℕ) (st
 unfolding walk_from reads_from
 step_permits path level word f i words (Read g j) frame size e w rest =
     let r = rest g j refl in
-    ((link_permits path level (record { frame = f; index = i; value = word }) g j e, r.0), r.1)
+    (All-cons (IsPermitted path) _ _ (link_permits path level (record { frame = f; index = i; value = word }) g j e) r.0, r.1)
 step_permits path level word f i words (Leaf g s) frame size e w rest =
     let l : after_word path level word ≡ Leaf frame size = cc in
-    ((leaf_permits path level (record { frame = f; index = i; value = word }) frame size l, tt), leaf_inside path level word frame size l)
+    (All-cons (IsPermitted path) _ [] (leaf_permits path level (record { frame = f; index = i; value = word }) frame size l) (All-nil (IsPermitted path)), leaf_inside path level word frame size l)
 step_permits path level word f i words (Fault c) frame size e w rest = cc
 
 walk_permits : (path : NestedPath) (level f i : ℕ) (words : List ℕ) (frame : ℕ) (size : PageSize) → walk_from path level (Read f i) words ≡ Leaf frame size → All (IsPermitted path) (reads_from path level (Read f i) words) × (frame < path.frames)
