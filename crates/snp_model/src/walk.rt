@@ -35,7 +35,7 @@ pub struct GuestPath {
     pub levels: u8,
     /// The guest page number of the first table, below 2^36.
     pub root: u64,
-    /// The virtual address that is looked up, which is canonical.
+    /// The virtual address that is looked up.
     pub address: u64,
     /// Whether the access writes.
     pub write: bool,
