@@ -1,13 +1,9 @@
-// A library with one function.
+//! The walk of a guest's page tables (APM volume 2, 5.3), fed one word at a time.
 #![tactic(auto)]
 
-ghost use Rattle.std.specs.Prelude.{◌≡◌};
-ghost use Rattle.guest_walk.specs.Echo.{echo_of};
+mod entry;
+mod law;
+mod walk;
 
-// The `ensures` clause is the contract: what `echo` returns is `echo_of` of its argument, a definition
-// in `specs/Echo.antt`, which a caller's clause can cite too.
-pub fn echo(x: usize) -> usize
-    ensures { result ≡ echo_of x }
-{
-    x
-}
+pub use law::guest_walk_laws;
+pub use walk::{GuestWalk, GuestWalked, GuestWord, NotCanonical};
