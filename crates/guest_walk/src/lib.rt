@@ -7,3 +7,6 @@ mod walk;
 
 pub use law::guest_walk_laws;
 pub use walk::{GuestWalk, GuestWalked, GuestWord, NotCanonical};
+
+#[cfg(test)]
+mod tests;

@@ -7,3 +7,6 @@ mod walk;
 
 pub use law::nested_walk_laws;
 pub use walk::{NestedWalk, Walked, WordAddress};
+
+#[cfg(test)]
+mod tests;
