@@ -1,5 +1,5 @@
 -- A walk that is fed with a word and goes on stands at its next read.
-use Rattle.std.proofs.Common.{◌≡◌, ℕ, suc, ◌+◌, ◌-◌, ◌^◌, ◌<◌, List, [], ◌∷◌, ◌++◌, length, take, set, replicate, refl, sym, ap, ◌∙◌, subst, append_assoc, add-one, length-set, arith}
+use Rattle.std.proofs.Common.{◌≡◌, ℕ, suc, ◌+◌, ◌-◌, ◌^◌, ◌<◌, List, [], ◌∷◌, ◌++◌, length, take, set, replicate, refl, sym, ap, ◌∙◌, subst, append_assoc, length-set, arith}
 use Rattle.std.proofs.lemmas.List.{take_more_set, set_at, length-take-le}
 use Rattle.snp_model.specs.declared.walk.GuestPath.{GuestPath}
 use Rattle.snp_model.specs.declared.walk.GuestEnd.{GuestEnd}
@@ -8,7 +8,7 @@ use Rattle.snp_model.specs.GuestWalk.{guest_index, after_guest_word, guest_walk_
 use Rattle.snp_model.proofs.GuestReadsLaws.{link_of, guest_end-push, guest_walk_is}
 use Rattle.snp_model.specs.GuestReads.{IsGuestWalk, guest_reads}
 use Rattle.guest_walk.specs.declared.walk.GuestWalked.{GuestWalked}
-use Rattle.guest_walk.specs.declared.walk.GuestWalked.TheVariants.{More, Leaf as LeafAt, Pf}
+use Rattle.guest_walk.specs.declared.walk.GuestWalked.TheVariants.{More}
 use Rattle.guest_walk.specs.Walk.{Walk, IsStanding}
 use Rattle.guest_walk.specs.Answer.{answer_at, answer_of, end_of}
 
@@ -23,7 +23,7 @@ standing_first path levels below =
       goes_on = omega arith;
       rest = refl;
       below = below;
-      stands = ap (λ (x : ℕ). Read path.root (guest_index path.address x)) d
+      stands = ap (λ (x : ℕ). Read path.root (guest_index path.address x)) d;
     }
 
 replicate_less : (n count : ℕ) → count < n → replicate {A = ℕ} (n - count) 0 ≡ 0 ∷ replicate (n - (count + 1)) 0
@@ -55,7 +55,7 @@ standing_more path table words count word gpn index s e below =
       goes_on = omega (arith, l.not_last);
       rest = rest_more words 5 count word s.room (omega (arith, s.levels)) s.rest;
       below = below;
-      stands = ap (guest_end path) t ∙ p ∙ ap (λ (x : ℕ). after_guest_word path (path.levels - x) word) f ∙ e ∙ ap (λ (x : ℕ). Read gpn x) (l.index_is ∙ ap (guest_index path.address) d)
+      stands = ap (guest_end path) t ∙ p ∙ ap (λ (x : ℕ). after_guest_word path (path.levels - x) word) f ∙ e ∙ ap (λ (x : ℕ). Read gpn x) (l.index_is ∙ ap (guest_index path.address) d);
     }
 
 -- what a walk answers where it is fed with a word

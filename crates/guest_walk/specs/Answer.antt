@@ -1,5 +1,5 @@
 -- What a `GuestWalk` answers where it is fed with a word.
-use Rattle.std.specs.Prelude.{ℕ, ◌^◌, ◌<◌, Bool, List, ⊤}
+use Rattle.std.specs.Prelude.{ℕ, ◌^◌, ◌<◌, List, ⊤}
 use Rattle.snp_model.specs.declared.walk.GuestPath.{GuestPath}
 use Rattle.snp_model.specs.declared.walk.GuestEnd.{GuestEnd}
 use Rattle.snp_model.specs.declared.walk.GuestEnd.TheVariants.{Read, Leaf, Fault}

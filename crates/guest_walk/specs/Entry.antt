@@ -1,5 +1,5 @@
 -- What every end of a walk keeps.
-use Rattle.std.specs.Prelude.{ℕ, ◌^◌, ◌<◌, Bool, ⊤}
+use Rattle.std.specs.Prelude.{◌^◌, ◌<◌, ⊤}
 use Rattle.snp_model.specs.declared.walk.GuestEnd.{GuestEnd}
 use Rattle.snp_model.specs.declared.walk.GuestEnd.TheVariants.{Read, Leaf, Fault}
 

@@ -20,11 +20,22 @@ pub(crate) fn after_word(path: &GuestPath, level: usize, word: u64) -> GuestEnd
     } else if path.write && !has_bit(word, 0x2) {
         guest_fault(path, true)
     } else if is_large_leaf(level, word) {
-        GuestEnd::Leaf { gpn, private, size: PageSize::Large }
+        GuestEnd::Leaf {
+            gpn,
+            private,
+            size: PageSize::Large,
+        }
     } else if level == 1 {
-        GuestEnd::Leaf { gpn, private, size: PageSize::Small }
+        GuestEnd::Leaf {
+            gpn,
+            private,
+            size: PageSize::Small,
+        }
     } else {
-        GuestEnd::Read { gpn, index: guest_index(path.address, level - 1) }
+        GuestEnd::Read {
+            gpn,
+            index: guest_index(path.address, level - 1),
+        }
     }
 }
 

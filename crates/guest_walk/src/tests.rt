@@ -14,15 +14,32 @@ enum End {
 #[test]
 fn reads_the_tables_in_turn(rt: HostRuntime) -> Result<(), NotCanonical> {
     let mut walk = GuestWalk::start(4, 1, 0x200_C040_1FF8, false)?;
-    for (word, gpn, index) in [(0x2003, 1, 4), (0x3081, 2, 3), (0x7FF7_FFFF_FFFF_F001, 3, 2)] {
+    for (word, gpn, index) in [
+        (0x2003, 1, 4),
+        (0x3081, 2, 3),
+        (0x7FF7_FFFF_FFFF_F001, 3, 2),
+    ] {
         assert_eq!(rt; walk.needs(), GuestWord { gpn, index });
         match walk.feed(word) {
             GuestWalked::More(next) => walk = next,
             _ => assert!(rt; false),
         }
     }
-    assert_eq!(rt; walk.needs(), GuestWord { gpn: 0xF_FFFF_FFFF, index: 1 });
-    assert_eq!(rt; walk.feed(0x8081), GuestWalked::Leaf { gpn: 8, private: false, size: PageSize::Small });
+    assert_eq!(rt;
+        walk.needs(),
+        GuestWord {
+            gpn: 0xF_FFFF_FFFF,
+            index: 1
+        }
+    );
+    assert_eq!(rt;
+        walk.feed(0x8081),
+        GuestWalked::Leaf {
+            gpn: 8,
+            private: false,
+            size: PageSize::Small
+        }
+    );
     Ok(())
 }
 
@@ -32,12 +49,32 @@ fn reads_the_tables_in_turn(rt: HostRuntime) -> Result<(), NotCanonical> {
 fn ends_as_the_entries_say(rt: HostRuntime) -> Result<(), NotCanonical> {
     let cases = [
         // Private and shared leaves of 4 KB and of 2 MB: the latter keep the page's place in them.
-        (false, [0x2003, 0x3003, 0x4003, 0x8_0000_0000_0003], Leaf(0, true, Small)),
-        (true, [0x2003, 0x3003, 0x4003, 0x8_0000_0000_9003], Leaf(9, true, Small)),
+        (
+            false,
+            [0x2003, 0x3003, 0x4003, 0x8_0000_0000_0003],
+            Leaf(0, true, Small),
+        ),
+        (
+            true,
+            [0x2003, 0x3003, 0x4003, 0x8_0000_0000_9003],
+            Leaf(9, true, Small),
+        ),
         (false, [0x2003, 0x3003, 0x4003, 0x3], Leaf(0, false, Small)),
-        (false, [0x2003, 0x3003, 0x8_0000_0020_1083, 0], Leaf(513, true, Large)),
-        (true, [0x2003, 0x3003, 0x20_1083, 0], Leaf(513, false, Large)),
-        (false, [0x2003, 0x3003, 0x4003, 0xFFFF_FFFF_FFFF_F001], Leaf(0xF_FFFF_FFFF, true, Small)),
+        (
+            false,
+            [0x2003, 0x3003, 0x8_0000_0020_1083, 0],
+            Leaf(513, true, Large),
+        ),
+        (
+            true,
+            [0x2003, 0x3003, 0x20_1083, 0],
+            Leaf(513, false, Large),
+        ),
+        (
+            false,
+            [0x2003, 0x3003, 0x4003, 0xFFFF_FFFF_FFFF_F001],
+            Leaf(0xF_FFFF_FFFF, true, Small),
+        ),
         // Not present.
         (false, [0x2003, 0x3003, 0x4003, 0], Pf(0)),
         (true, [0x2003, 0x3003, 0x4003, 0x8_0000_0000_0002], Pf(2)),
@@ -47,8 +84,16 @@ fn ends_as_the_entries_say(rt: HostRuntime) -> Result<(), NotCanonical> {
         (true, [0x2003, 0x3003, 0x4003, 0x8_0000_0000_0001], Pf(3)),
         (true, [0x2001, 0, 0, 0], Pf(3)),
         (true, [0x2003, 0x3003, 0x81, 0], Pf(3)),
-        (false, [0x2001, 0x3001, 0x4001, 0x8_0000_0000_0001], Leaf(0, true, Small)),
-        (false, [0x2001, 0x3001, 0x8_0000_0000_0081, 0], Leaf(1, true, Large)),
+        (
+            false,
+            [0x2001, 0x3001, 0x4001, 0x8_0000_0000_0001],
+            Leaf(0, true, Small),
+        ),
+        (
+            false,
+            [0x2001, 0x3001, 0x8_0000_0000_0081, 0],
+            Leaf(1, true, Large),
+        ),
     ];
     for (write, words, end) in cases {
         let walk = GuestWalk::start(4, 1, 0x1010, write)?;
@@ -64,7 +109,11 @@ fn ends_as_the_entries_say(rt: HostRuntime) -> Result<(), NotCanonical> {
         (0xFFFF_FFFF_FFFF_FFFF, true),
     ];
     for (address, is_canonical) in addresses {
-        assert_eq!(rt; GuestWalk::start(4, 1, address, false).is_ok(), is_canonical, "at {address}");
+        assert_eq!(rt;
+            GuestWalk::start(4, 1, address, false).is_ok(),
+            is_canonical,
+            "at {address}"
+        );
     }
     Ok(())
 }

@@ -2,10 +2,9 @@ ghost use Rattle.std.specs.Prelude.{◌≡◌, ◌^◌, ◌<◌, ◌↔◌, [], 
 ghost use Rattle.snp_model.specs.GuestWalk.{is_canonical, guest_end};
 ghost use Rattle.snp_model.specs.GuestReads.{IsGuestWalk, guest_reads};
 
-use std::marker::Model;
-
 use crate::entry::{after_word, guest_index, is_canonical};
 use snp_model::{GuestEnd, GuestPath, PageSize};
+use std::marker::Model;
 
 /// A walk of a guest's page tables that stands at a read. It has no memory of its own: it says which word it needs,
 /// and is fed with it.
@@ -59,7 +58,11 @@ pub enum GuestWalked {
     More(GuestWalk),
     /// The guest page number, below 2^36, that the address leads to, whether the access is private, and the size of
     /// the leaf.
-    Leaf { gpn: u64, private: bool, size: PageSize },
+    Leaf {
+        gpn: u64,
+        private: bool,
+        size: PageSize,
+    },
     /// A page fault with this error code.
     Pf(u64),
 }
@@ -69,7 +72,12 @@ impl GuestWalk {
 
     /// A walk of an address through four levels of tables from the guest page number `root` on, of an access that
     /// writes or not. It fails where bits 63:47 of the address aren't all equal.
-    pub fn start(levels: u8, root: u64, address: u64, write: bool) -> Result<GuestWalk, NotCanonical>
+    pub fn start(
+        levels: u8,
+        root: u64,
+        address: u64,
+        write: bool,
+    ) -> Result<GuestWalk, NotCanonical>
         requires levels { levels ≡ 4 }
         requires root { root < 2 ^ 36 }
         ensures canonical { IsOk result ↔ IsTrue (is_canonical address) }
@@ -81,8 +89,18 @@ impl GuestWalk {
         if !is_canonical(address) {
             return Err(NotCanonical);
         }
-        let path = GuestPath { levels, root, address, write };
-        Ok(GuestWalk { path, table: root, words: [0; 5], count: 0 })
+        let path = GuestPath {
+            levels,
+            root,
+            address,
+            write,
+        };
+        Ok(GuestWalk {
+            path,
+            table: root,
+            words: [0; 5],
+            count: 0,
+        })
     }
 
     /// The word that the walk reads next.
@@ -90,12 +108,15 @@ impl GuestWalk {
         ensures read { guest_end self.now.path self.now.words ≡ GuestEnd.Read result.gpn result.index }
         // It is the next read of these reads.
         ensures walk { IsGuestWalk self.now.path (guest_reads self.now.path self.now.words)
-          (GuestEnd.Read result.gpn result.index) }
+            (GuestEnd.Read result.gpn result.index) }
         ensures gpn { result.gpn < 2 ^ 36 }
         ensures index { result.index < 512 }
     {
         let level = self.path.levels as usize - self.count;
-        GuestWord { gpn: self.table, index: guest_index(self.path.address, level) }
+        GuestWord {
+            gpn: self.table,
+            index: guest_index(self.path.address, level),
+        }
     }
 
     /// What comes of the word that the walk needs. Any word may be given.
@@ -103,7 +124,7 @@ impl GuestWalk {
         ensures answer { result ≡ answer_of self.path (self.words ++ word ∷ []) }
         // The reads with this one, and where they end.
         ensures walk { IsGuestWalk self.path (guest_reads self.path (self.words ++ word ∷ []))
-          (end_of result) }
+            (end_of result) }
         ensures leaf { LeafIsBelow result }
     {
         let level = self.path.levels as usize - self.count;
@@ -111,7 +132,12 @@ impl GuestWalk {
             GuestEnd::Read { gpn, index: _ } => {
                 let mut words = self.words;
                 words[self.count] = word;
-                GuestWalked::More(GuestWalk { path: self.path, table: gpn, words, count: self.count + 1 })
+                GuestWalked::More(GuestWalk {
+                    path: self.path,
+                    table: gpn,
+                    words,
+                    count: self.count + 1,
+                })
             }
             GuestEnd::Leaf { gpn, private, size } => GuestWalked::Leaf { gpn, private, size },
             GuestEnd::Fault(code) => GuestWalked::Pf(code),

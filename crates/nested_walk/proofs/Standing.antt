@@ -1,5 +1,5 @@
 -- A walk that is fed with a word and goes on stands at its next read.
-use Rattle.std.proofs.Common.{◌≡◌, ℕ, suc, ◌+◌, ◌-◌, ◌^◌, ◌<◌, List, [], ◌∷◌, ◌++◌, length, take, set, replicate, refl, sym, ap, ◌∙◌, subst, append_assoc, add-one, length-set, arith}
+use Rattle.std.proofs.Common.{◌≡◌, ℕ, suc, ◌+◌, ◌-◌, ◌^◌, ◌<◌, List, [], ◌∷◌, ◌++◌, length, take, set, replicate, refl, sym, ap, ◌∙◌, subst, append_assoc, length-set, arith}
 use Rattle.std.proofs.lemmas.List.{take_more_set, set_at, length-take-le}
 use Rattle.snp_model.specs.declared.walk.NestedPath.{NestedPath}
 use Rattle.snp_model.specs.declared.walk.NestedEnd.{NestedEnd}
@@ -8,7 +8,7 @@ use Rattle.snp_model.specs.NestedWalk.{nested_index, after_word, walk_from, nest
 use Rattle.snp_model.proofs.NestedReadsLaws.{link_of, nested_end-push, nested_walk_is}
 use Rattle.snp_model.specs.NestedReads.{IsNestedWalk, nested_reads}
 use Rattle.nested_walk.specs.declared.walk.Walked.{Walked}
-use Rattle.nested_walk.specs.declared.walk.Walked.TheVariants.{More, Leaf as LeafAt, Npf}
+use Rattle.nested_walk.specs.declared.walk.Walked.TheVariants.{More}
 use Rattle.nested_walk.specs.Walk.{Walk, IsStanding}
 use Rattle.nested_walk.specs.Answer.{answer_at, answer_of, end_of}
 
@@ -46,7 +46,7 @@ standing_more path table words count word frame index s e inside =
       rest = rest_more words 4 count word s.room c s.rest;
       page = s.page;
       inside = inside;
-      stands = ap (nested_end path) t ∙ p ∙ ap (λ (x : ℕ). after_word path (4 - x) word) f ∙ e ∙ ap (λ (x : ℕ). Read frame x) (l.index_is ∙ ap (nested_index path.gpn) d)
+      stands = ap (nested_end path) t ∙ p ∙ ap (λ (x : ℕ). after_word path (4 - x) word) f ∙ e ∙ ap (λ (x : ℕ). Read frame x) (l.index_is ∙ ap (nested_index path.gpn) d);
     }
 
 -- what a walk answers where it is fed with a word

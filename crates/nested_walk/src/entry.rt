@@ -20,11 +20,20 @@ pub(crate) fn after_word(path: &NestedPath, level: usize, word: u64) -> NestedEn
     } else if (path.write || path.table) && !has_bit(word, 0x2) {
         walk_fault(path, true)
     } else if is_large_leaf(level, word) {
-        NestedEnd::Leaf { frame: frame as u32, size: PageSize::Large }
+        NestedEnd::Leaf {
+            frame: frame as u32,
+            size: PageSize::Large,
+        }
     } else if level == 1 {
-        NestedEnd::Leaf { frame: frame as u32, size: PageSize::Small }
+        NestedEnd::Leaf {
+            frame: frame as u32,
+            size: PageSize::Small,
+        }
     } else {
-        NestedEnd::Read { frame: frame as u32, index: nested_index(path.gpn, level - 1) }
+        NestedEnd::Read {
+            frame: frame as u32,
+            index: nested_index(path.gpn, level - 1),
+        }
     }
 }
 
@@ -49,7 +58,11 @@ fn frame_below(path: &NestedPath, level: usize, word: u64) -> u64
     ensures { result ≡ model.frame_below path.now level word }
 {
     let address = word / 4096 % 0x10_0000_0000;
-    if is_large_leaf(level, word) { address / 512 * 512 + path.gpn % 512 } else { address }
+    if is_large_leaf(level, word) {
+        address / 512 * 512 + path.gpn % 512
+    } else {
+        address
+    }
 }
 
 // Whether an entry isn't present: its bit says so, or what it leads to is outside memory.

@@ -2,10 +2,9 @@ ghost use Rattle.std.specs.Prelude.{◌≡◌, ◌^◌, ◌<◌, [], ◌∷◌, 
 ghost use Rattle.snp_model.specs.NestedWalk.{nested_end};
 ghost use Rattle.snp_model.specs.NestedReads.{IsNestedWalk, nested_reads};
 
-use std::marker::Model;
-
 use crate::entry::{after_word, nested_index};
 use snp_model::{NestedEnd, NestedPath, PageSize};
+use std::marker::Model;
 
 /// A walk of nested page tables that stands at a read. It has no memory of its own: it says which word it needs,
 /// and is fed with it.
@@ -64,7 +63,14 @@ impl NestedWalk {
 
     /// A walk of a guest page number through the tables of `root`, in a memory of `frames` frames: of an access that
     /// writes, is private, or is to a guest's table.
-    pub fn start(root: u32, frames: u32, gpn: u64, write: bool, private: bool, table: bool) -> NestedWalk
+    pub fn start(
+        root: u32,
+        frames: u32,
+        gpn: u64,
+        write: bool,
+        private: bool,
+        table: bool,
+    ) -> NestedWalk
         requires root { root < frames }
         requires gpn { gpn < 2 ^ 36 }
         ensures { result ≡ record {
@@ -72,8 +78,20 @@ impl NestedWalk {
           words = [];
         } }
     {
-        let path = NestedPath { root, frames, gpn, write, private, table };
-        NestedWalk { path, table: root, words: [0; 4], count: 0 }
+        let path = NestedPath {
+            root,
+            frames,
+            gpn,
+            write,
+            private,
+            table,
+        };
+        NestedWalk {
+            path,
+            table: root,
+            words: [0; 4],
+            count: 0,
+        }
     }
 
     /// The word that the walk reads next.
@@ -81,11 +99,14 @@ impl NestedWalk {
         ensures read { nested_end self.now.path self.now.words ≡ NestedEnd.Read result.frame result.index }
         // It is the next read of these reads.
         ensures walk { IsNestedWalk self.now.path (nested_reads self.now.path self.now.words)
-          (NestedEnd.Read result.frame result.index) }
+            (NestedEnd.Read result.frame result.index) }
         ensures frame { result.frame < self.now.path.frames }
         ensures index { result.index < 512 }
     {
-        WordAddress { frame: self.table, index: nested_index(self.path.gpn, 4 - self.count) }
+        WordAddress {
+            frame: self.table,
+            index: nested_index(self.path.gpn, 4 - self.count),
+        }
     }
 
     /// What comes of the word that the walk needs. Any word may be given.
@@ -93,14 +114,19 @@ impl NestedWalk {
         ensures answer { result ≡ answer_of self.path (self.words ++ word ∷ []) }
         // The reads with this one, and where they end.
         ensures walk { IsNestedWalk self.path (nested_reads self.path (self.words ++ word ∷ []))
-          (end_of result) }
+            (end_of result) }
         ensures leaf { LeafIsInside self.path.frames result }
     {
         match after_word(&self.path, 4 - self.count, word) {
             NestedEnd::Read { frame, index: _ } => {
                 let mut words = self.words;
                 words[self.count] = word;
-                Walked::More(NestedWalk { path: self.path, table: frame, words, count: self.count + 1 })
+                Walked::More(NestedWalk {
+                    path: self.path,
+                    table: frame,
+                    words,
+                    count: self.count + 1,
+                })
             }
             NestedEnd::Leaf { frame, size } => Walked::Leaf { frame, size },
             NestedEnd::Fault(code) => Walked::Npf(code),

@@ -1,5 +1,5 @@
 -- The relation of `GuestReads` holds of what `guest_end` and `guest_reads` give for any words, and of nothing else.
-use Rattle.std.proofs.Common.{◌≡◌, ◌≢◌, ℕ, zero, suc, ◌+◌, ◌-◌, ◌^◌, ◌<◌, ◌≤◌, Bool, true, false, List, [], ◌∷◌, ◌++◌, map, length, Some, refl, sym, ap, ◌∙◌, subst, add-one, arith, rules}
+use Rattle.std.proofs.Common.{◌≡◌, ◌≢◌, ℕ, zero, suc, ◌-◌, ◌^◌, ◌<◌, ◌≤◌, Bool, List, [], ◌∷◌, ◌++◌, length, Some, refl, sym, ap, ◌∙◌, subst, add-one, arith}
 use Rattle.std.specs.Prelude.{slice_get}
 use Rattle.std.specs.List.{All}
 use Rattle.std.proofs.lemmas.Bool.Decides.{nat_tests}
@@ -46,8 +46,8 @@ none path level gpn = record {
   indexes = λ (place : ℕ) (read : GuestRead) e. cc;
   links = λ (place : ℕ) (read next : GuestRead) e f. cc;
   first = λ e. refl;
-  last = λ (place : ℕ) (read : GuestRead) e f. cc
-  }
+  last = λ (place : ℕ) (read : GuestRead) e f. cc;
+}
 
 -- one read, whose word ends the walk
 indexes-one : (path : GuestPath) (level : ℕ) (only : GuestRead) → only.index ≡ guest_index path.address level → (place : ℕ) (read : GuestRead) → slice_get (only ∷ []) place ≡ Some read → read.index ≡ guest_index path.address (level - place)
@@ -65,8 +65,8 @@ one path level only stands p h s = record {
   indexes = indexes-one path level only h;
   links = λ (place : ℕ) (read next : GuestRead) e f. cc;
   first = λ e. cc;
-  last = λ (place : ℕ) (read : GuestRead) e. last-one path level only stands s place read
-  }
+  last = λ (place : ℕ) (read : GuestRead) e. last-one path level only stands s place read;
+}
 
 -- one read more, in front
 indexes-more : (path : GuestPath) (level gpn : ℕ) (read : GuestRead) (reads : List GuestRead) (stands : GuestEnd) → read.index ≡ guest_index path.address level → IsWalkFrom path (level - 1) gpn reads stands → (place : ℕ) (at : GuestRead) → slice_get (read ∷ reads) place ≡ Some at → at.index ≡ guest_index path.address (level - place)
@@ -89,8 +89,8 @@ more path level gpn read reads stands p h l w = record {
   indexes = indexes-more path level gpn read reads stands h w;
   links = links-more path level gpn read reads stands l w;
   first = λ e. absurd (omega arith);
-  last = λ (place : ℕ) (at : GuestRead) e. last-more path level gpn read reads stands l w place at (omega arith)
-  }
+  last = λ (place : ℕ) (at : GuestRead) e. last-more path level gpn read reads stands l w place at (omega arith);
+}
 
 -- what any words give: `rest` is what the further words give
 step_is : (path : GuestPath) (level gpn index word : ℕ) (words : List ℕ) (stands : GuestEnd) → 0 < level → index ≡ guest_index path.address level → after_guest_word path level word ≡ stands → ((f i : ℕ) → stands ≡ Read f i → 0 < level - 1 → i ≡ guest_index path.address (level - 1) → IsWalkFrom path (level - 1) f (guest_reads_from path (level - 1) (Read f i) words) (guest_walk_from path (level - 1) (Read f i) words)) → IsWalkFrom path level gpn (record { gpn = gpn; index = index; value = word } ∷ guest_reads_from path (level - 1) stands words) (guest_walk_from path (level - 1) stands words)
@@ -114,8 +114,8 @@ tail_of path level gpn read next reads stands w = record {
   indexes = λ place at e. let z = sub_suc level place in let i = w.indexes (suc place) at e in cc;
   links = λ place at after e f. let z = sub_suc level place in let i = w.links (suc place) at after e f in cc;
   first = λ e. absurd (omega arith);
-  last = λ place at e f. let z = sub_suc level place in let i = w.last (suc place) at (omega arith) f in cc
-  }
+  last = λ place at e f. let z = sub_suc level place in let i = w.last (suc place) at (omega arith) f in cc;
+}
 
 read_is : (read : GuestRead) (gpn index : ℕ) → read.gpn ≡ gpn → read.index ≡ index → read ≡ record { gpn = gpn; index = index; value = read.value }
 read_is read gpn index f i = rw (← f, ← i)
@@ -170,7 +170,7 @@ guest_walk_is path words p =
       tables = λ place read next e f. (link_of path (path.levels - place) read.value next.gpn next.index (w.links place read next e (rw add-one at f))).gpn_is;
       goes_on = λ place read next e f. w.links place read next e (rw add-one at f);
       first = w.first;
-      last = λ place read e f. w.last place read (rw add-one at e) f
+      last = λ place read e f. w.last place read (rw add-one at e) f;
     }
 
 -- and a walk's words give its reads and where it stands
@@ -182,7 +182,7 @@ only_guest_walk path reads stands w =
       indexes = w.indexes;
       links = λ place read next e f. w.goes_on place read next e (rw add-one f);
       first = w.first;
-      last = λ place read e f. w.last place read (rw add-one e) f
+      last = λ place read e f. w.last place read (rw add-one e) f;
     })
 
 guest_walk_from-append : (path : GuestPath) (level : ℕ) (stands : GuestEnd) (words more_words : List ℕ) → guest_walk_from path level stands (words ++ more_words) ≡ guest_walk_from path (level - length words) (guest_walk_from path level stands words) more_words

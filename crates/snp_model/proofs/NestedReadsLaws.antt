@@ -1,5 +1,5 @@
 -- The relation of `NestedReads` holds of what `nested_end` and `nested_reads` give for any words, and of nothing else.
-use Rattle.std.proofs.Common.{◌≡◌, ◌≢◌, ℕ, zero, suc, ◌+◌, ◌-◌, ◌<◌, ◌≤◌, Bool, true, false, List, [], ◌∷◌, ◌++◌, map, length, Some, refl, sym, ap, ◌∙◌, subst, add-one, arith, rules}
+use Rattle.std.proofs.Common.{◌≡◌, ◌≢◌, ℕ, zero, suc, ◌-◌, ◌<◌, ◌≤◌, List, [], ◌∷◌, ◌++◌, length, Some, refl, sym, ap, ◌∙◌, subst, add-one, arith}
 use Rattle.std.specs.Prelude.{slice_get}
 use Rattle.std.specs.List.{All}
 use Rattle.std.proofs.lemmas.Bool.Decides.{nat_tests}
@@ -45,8 +45,8 @@ none path level frame = record {
   indexes = λ (place : ℕ) (read : NestedRead) e. cc;
   links = λ (place : ℕ) (read next : NestedRead) e f. cc;
   first = λ e. refl;
-  last = λ (place : ℕ) (read : NestedRead) e f. cc
-  }
+  last = λ (place : ℕ) (read : NestedRead) e f. cc;
+}
 
 -- one read, whose word ends the walk
 indexes-one : (path : NestedPath) (level : ℕ) (only : NestedRead) → only.index ≡ nested_index path.gpn level → (place : ℕ) (read : NestedRead) → slice_get (only ∷ []) place ≡ Some read → read.index ≡ nested_index path.gpn (level - place)
@@ -64,8 +64,8 @@ one path level only stands p h s = record {
   indexes = indexes-one path level only h;
   links = λ (place : ℕ) (read next : NestedRead) e f. cc;
   first = λ e. cc;
-  last = λ (place : ℕ) (read : NestedRead) e. last-one path level only stands s place read
-  }
+  last = λ (place : ℕ) (read : NestedRead) e. last-one path level only stands s place read;
+}
 
 -- one read more, in front
 indexes-more : (path : NestedPath) (level frame : ℕ) (read : NestedRead) (reads : List NestedRead) (stands : NestedEnd) → read.index ≡ nested_index path.gpn level → IsWalkFrom path (level - 1) frame reads stands → (place : ℕ) (at : NestedRead) → slice_get (read ∷ reads) place ≡ Some at → at.index ≡ nested_index path.gpn (level - place)
@@ -88,8 +88,8 @@ more path level frame read reads stands p h l w = record {
   indexes = indexes-more path level frame read reads stands h w;
   links = links-more path level frame read reads stands l w;
   first = λ e. absurd (omega arith);
-  last = λ (place : ℕ) (at : NestedRead) e. last-more path level frame read reads stands l w place at (omega arith)
-  }
+  last = λ (place : ℕ) (at : NestedRead) e. last-more path level frame read reads stands l w place at (omega arith);
+}
 
 -- what any words give: `rest` is what the further words give
 step_is : (path : NestedPath) (level frame index word : ℕ) (words : List ℕ) (stands : NestedEnd) → 0 < level → index ≡ nested_index path.gpn level → after_word path level word ≡ stands → ((f i : ℕ) → stands ≡ Read f i → 0 < level - 1 → i ≡ nested_index path.gpn (level - 1) → IsWalkFrom path (level - 1) f (reads_from path (level - 1) (Read f i) words) (walk_from path (level - 1) (Read f i) words)) → IsWalkFrom path level frame (record { frame = frame; index = index; value = word } ∷ reads_from path (level - 1) stands words) (walk_from path (level - 1) stands words)
@@ -113,8 +113,8 @@ tail_of path level frame read next reads stands w = record {
   indexes = λ place at e. let z = sub_suc level place in let i = w.indexes (suc place) at e in cc;
   links = λ place at after e f. let z = sub_suc level place in let i = w.links (suc place) at after e f in cc;
   first = λ e. absurd (omega arith);
-  last = λ place at e f. let z = sub_suc level place in let i = w.last (suc place) at (omega arith) f in cc
-  }
+  last = λ place at e f. let z = sub_suc level place in let i = w.last (suc place) at (omega arith) f in cc;
+}
 
 read_is : (read : NestedRead) (frame index : ℕ) → read.frame ≡ frame → read.index ≡ index → read ≡ record { frame = frame; index = index; value = read.value }
 read_is read frame index f i = rw (← f, ← i)
@@ -169,7 +169,7 @@ nested_walk_is path words =
       frames = λ place read next e f. (link_of path (4 - place) read.value next.frame next.index (w.links place read next e (rw add-one at f))).frame_is;
       goes_on = λ place read next e f. w.links place read next e (rw add-one at f);
       first = w.first;
-      last = λ place read e f. w.last place read (rw add-one at e) f
+      last = λ place read e f. w.last place read (rw add-one at e) f;
     }
 
 -- and a walk's words give its reads and where it stands
@@ -181,7 +181,7 @@ only_nested_walk path reads stands w =
       indexes = w.indexes;
       links = λ place read next e f. w.goes_on place read next e (rw add-one f);
       first = w.first;
-      last = λ place read e f. w.last place read (rw add-one e) f
+      last = λ place read e f. w.last place read (rw add-one e) f;
     })
 
 walk_from-append : (path : NestedPath) (level : ℕ) (stands : NestedEnd) (words more_words : List ℕ) → walk_from path level stands (words ++ more_words) ≡ walk_from path (level - length words) (walk_from path level stands words) more_words

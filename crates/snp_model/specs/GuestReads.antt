@@ -2,7 +2,7 @@
 use Rattle.std.specs.Prelude.{◌≡◌, ℕ, ◌+◌, ◌-◌, ◌≤◌, IsTrue, List, [], ◌∷◌, length, map, slice_get, Some}
 use Rattle.snp_model.specs.declared.walk.GuestPath.{GuestPath}
 use Rattle.snp_model.specs.declared.walk.GuestEnd.{GuestEnd}
-use Rattle.snp_model.specs.declared.walk.GuestEnd.TheVariants.{Read, Leaf, Fault}
+use Rattle.snp_model.specs.declared.walk.GuestEnd.TheVariants.{Read}
 use Rattle.snp_model.specs.NestedWalk.{has_bit, address_of}
 use Rattle.snp_model.specs.GuestWalk.{guest_index, after_guest_word}
 

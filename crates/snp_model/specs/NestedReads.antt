@@ -1,8 +1,8 @@
 -- The reads of a nested walk that have happened (APM volume 2, 5.3 and 15.25.6): which lists of them there can be, and where the walk then stands. The values are any words at all.
-use Rattle.std.specs.Prelude.{◌≡◌, ℕ, ◌+◌, ◌-◌, ◌≤◌, ◌<◌, Bool, ◌||◌, IsTrue, List, [], ◌∷◌, length, map, slice_get, Some}
+use Rattle.std.specs.Prelude.{◌≡◌, ℕ, ◌+◌, ◌-◌, ◌≤◌, ◌||◌, IsTrue, List, [], ◌∷◌, length, map, slice_get, Some}
 use Rattle.snp_model.specs.declared.walk.NestedPath.{NestedPath}
 use Rattle.snp_model.specs.declared.walk.NestedEnd.{NestedEnd}
-use Rattle.snp_model.specs.declared.walk.NestedEnd.TheVariants.{Read, Leaf, Fault}
+use Rattle.snp_model.specs.declared.walk.NestedEnd.TheVariants.{Read}
 use Rattle.snp_model.specs.NestedWalk.{has_bit, nested_index, address_of, after_word}
 
 -- one word that was read of a nested table

@@ -45,9 +45,16 @@ pub struct GuestPath {
 #[derive(Clone, Copy, Debug, PartialEq, Eq)]
 pub enum GuestEnd {
     /// The next word of a guest table that it reads: a guest page number below 2^36 and an index below 512.
-    Read { gpn: u64, index: u16 },
+    Read {
+        gpn: u64,
+        index: u16,
+    },
     /// The guest page number, below 2^36, that the address leads to, whether the access is private, and the size of the leaf.
-    Leaf { gpn: u64, private: bool, size: PageSize },
+    Leaf {
+        gpn: u64,
+        private: bool,
+        size: PageSize,
+    },
     /// A page fault with this error code.
     Fault(u64),
 }

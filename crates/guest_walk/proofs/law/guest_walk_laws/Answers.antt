@@ -6,5 +6,5 @@ returns c = record {
   any_words = guest_walk_is;
   only_these = only_guest_walk;
   one_more = guest_reads-push;
-  leaf = guest_leaf_permits
-  }
+  leaf = guest_leaf_permits;
+}

@@ -6,5 +6,5 @@ returns c = record {
   any_words = nested_walk_is;
   only_these = only_nested_walk;
   one_more = nested_reads-push;
-  leaf = nested_leaf_permits
-  }
+  leaf = nested_leaf_permits;
+}
