@@ -2,7 +2,9 @@ pub mod Adding
 pub mod AttemptLaws
 pub mod CoreLaws
 pub mod GuestMemoryLaws
+pub mod GuestReadsLaws
 pub mod MemoryLaws
+pub mod NestedReadsLaws
 pub mod OpeningLaws
 pub mod OrderedLaws
 pub mod RoomLaws

@@ -8,12 +8,15 @@ pub mod Facts
 pub mod Faults
 pub mod Gcm
 pub mod GuestMemory
+pub mod GuestReads
+pub mod GuestWalk
 pub mod Holders
 pub mod ItemLines
 pub mod Journal
 pub mod Lines
 pub mod Locks
 pub mod Measurement
+pub mod NestedReads
 pub mod NestedWalk
 pub mod Opening
 pub mod Operations

@@ -27,3 +27,34 @@ pub enum NestedEnd {
     /// A nested page fault with this EXITINFO1.
     Fault(u64),
 }
+
+/// What a guest walk begins from.
+#[derive(Clone, Copy, Debug, PartialEq, Eq)]
+pub struct GuestPath {
+    /// How many levels of tables there are.
+    pub levels: u8,
+    /// The guest page number of the first table, below 2^36.
+    pub root: u64,
+    /// The virtual address that is looked up.
+    pub address: u64,
+    /// Whether the access writes.
+    pub write: bool,
+}
+
+/// Where a guest walk stands (APM volume 2, 5.3).
+#[derive(Clone, Copy, Debug, PartialEq, Eq)]
+pub enum GuestEnd {
+    /// The next word of a guest table that it reads: a guest page number below 2^36 and an index below 512.
+    Read {
+        gpn: u64,
+        index: u16,
+    },
+    /// The guest page number, below 2^36, that the address leads to, whether the access is private, and the size of the leaf.
+    Leaf {
+        gpn: u64,
+        private: bool,
+        size: PageSize,
+    },
+    /// A page fault with this error code.
+    Fault(u64),
+}

@@ -1,0 +1,10 @@
+-- What every end of a walk keeps.
+use Rattle.std.specs.Prelude.{◌^◌, ◌<◌, ⊤}
+use Rattle.snp_model.specs.declared.walk.GuestEnd.{GuestEnd}
+use Rattle.snp_model.specs.declared.walk.GuestEnd.TheVariants.{Read, Leaf, Fault}
+
+-- the guest page number that the walk goes to is below 2^36
+abbrev pub EndIsBelow : GuestEnd → Type 0
+EndIsBelow (Read gpn index) = gpn < 2 ^ 36
+EndIsBelow (Leaf gpn private size) = gpn < 2 ^ 36
+EndIsBelow (Fault code) = ⊤

@@ -1,0 +1,12 @@
+//! The walk of a guest's page tables (APM volume 2, 5.3), fed one word at a time.
+#![tactic(auto)]
+
+mod entry;
+mod law;
+mod walk;
+
+pub use law::guest_walk_laws;
+pub use walk::{GuestWalk, GuestWalked, GuestWord, NotCanonical};
+
+#[cfg(test)]
+mod tests;

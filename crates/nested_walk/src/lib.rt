@@ -1,0 +1,12 @@
+//! The walk of nested page tables (APM volume 2, 5.3 and 15.25.6), fed one word at a time.
+#![tactic(auto)]
+
+mod entry;
+mod law;
+mod walk;
+
+pub use law::nested_walk_laws;
+pub use walk::{NestedWalk, Walked, WordAddress};
+
+#[cfg(test)]
+mod tests;
