@@ -1,0 +1,23 @@
+-- The words of a region of memory: 512 pages of 512 words of 64 bits (this project's own).
+use Rattle.std.specs.Prelude.{◌≡◌, ℕ, ◌<◌, List, [], length, slice_index, slice_index_or, slice_set}
+
+-- the words of a page
+abbrev pub page_at : List (List ℕ) → ℕ → List ℕ
+page_at pages page = slice_index_or pages page []
+
+-- a word of a page
+abbrev pub word_at : List (List ℕ) → ℕ → ℕ → ℕ
+word_at pages page index = slice_index (page_at pages page) index
+
+-- the pages with this one in place of one
+abbrev pub with_page : List (List ℕ) → ℕ → List ℕ → List (List ℕ)
+with_page pages page words = slice_set pages page words
+
+-- the pages with this word in place of one
+abbrev pub with_word : List (List ℕ) → ℕ → ℕ → ℕ → List (List ℕ)
+with_word pages page index value = with_page pages page (slice_set (page_at pages page) index value)
+
+-- there are 512 pages, of 512 words each
+pub record IsRegion (pages : List (List ℕ)) : Type 0 where
+  pub pages_count : length pages ≡ 512
+  pub words_count : (page : ℕ) → page < 512 → length (page_at pages page) ≡ 512
