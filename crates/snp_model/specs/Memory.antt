@@ -1,5 +1,5 @@
 -- The words of a region of memory: 512 pages of 512 words of 64 bits (this project's own).
-use Rattle.std.specs.Prelude.{◌≡◌, ℕ, ◌<◌, List, [], length, slice_index, slice_index_or, slice_set}
+use Rattle.std.specs.Prelude.{◌≡◌, ◌≢◌, ℕ, ◌<◌, List, [], length, slice_index, slice_index_or, slice_set}
 
 -- the words of a page
 abbrev pub page_at : List (List ℕ) → ℕ → List ℕ
@@ -21,3 +21,8 @@ with_word pages page index value = with_page pages page (slice_set (page_at page
 pub record IsRegion (pages : List (List ℕ)) : Type 0 where
   pub pages_count : length pages ≡ 512
   pub words_count : (page : ℕ) → page < 512 → length (page_at pages page) ≡ 512
+
+-- every word but one stays
+abbrev pub OthersStay : List (List ℕ) → List (List ℕ) → ℕ → ℕ → Type 0
+OthersStay old new page index =
+    (p i : ℕ) → (p ≡ page → i ≢ index) → word_at new p i ≡ word_at old p i

@@ -1,0 +1,7 @@
+//! A data access together with its RMP check, in one call.
+#![tactic(auto)]
+
+mod checked;
+mod operation;
+
+pub use checked::{access, host_access};
