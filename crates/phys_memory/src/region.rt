@@ -76,11 +76,11 @@ impl Region {
         ensures found { result ≡ expected → self.new ≡ with_word self.old page index next }
         ensures missed { result ≢ expected → self.new ≡ self.old }
     {
-        let old = self.load(page, index);
-        if old == expected {
+        let found = self.load(page, index);
+        if found == expected {
             self.store(page, index, next);
         }
-        old
+        found
     }
 
     /// Copies a page out.

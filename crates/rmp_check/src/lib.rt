@@ -1,8 +1,12 @@
 //! What the RMP says to an access.
 #![tactic(auto)]
 
+mod guest;
+mod host;
 mod operation;
-mod verdict;
+#[cfg(test)]
+mod tests;
 
+pub use guest::{private_verdict, shared_verdict};
+pub use host::host_verdict;
 pub use snp_model::{Place, Verdict};
-pub use verdict::{host_verdict, private_verdict, shared_verdict};

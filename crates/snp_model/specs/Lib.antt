@@ -5,4 +5,5 @@ pub mod Verdicts
 pub mod Memory
 pub mod Entries
 pub mod Accesses
+pub mod Allowed
 pub mod NestedWalk

@@ -1,6 +1,8 @@
-ghost use Rattle.std.specs.Prelude.{◌≡◌};
+ghost use Rattle.std.specs.Prelude.{◌≡◌, ◌≢◌, ◌↔◌, true, false};
+ghost use Rattle.snp_model.specs.declared.access.Verdict.TheVariants.{Pass, Hidden};
 ghost use Rattle.snp_model.specs.Accesses.{IsPlace};
-ghost use Rattle.snp_model.specs.Verdicts.{is_large, private_verdict, private_refusal, shared_verdict, host_verdict};
+ghost use Rattle.snp_model.specs.Allowed.{IsAllowed};
+ghost use Rattle.snp_model.specs.Verdicts.{is_large, private_verdict, private_refusal, shared_verdict};
 
 use crate::operation::{lacks, writes};
 use snp_model::{NestedFault, Op, Outcome, PageSize, Place, RmpEntry, Verdict};
@@ -10,7 +12,9 @@ use snp_model::{NestedFault, Op, Outcome, PageSize, Place, RmpEntry, Verdict};
 #[tactic(auto, unfolding(snp_model::specs::Verdicts::private_verdict))]
 pub fn private_verdict(entry: &RmpEntry, at: &Place, op: &Op) -> Verdict
     requires { IsPlace at.now }
-    ensures { result ≡ private_verdict entry.now at.now op.now }
+    ensures verdict { result ≡ private_verdict entry.now at.now op.now }
+    ensures passes { (result ≡ Pass) ↔ IsAllowed entry.now at.now op.now }
+    ensures never_hidden { result ≢ Hidden }
 {
     if !entry.assigned || entry.asid != at.asid {
         private_refusal(at, op, false)
@@ -33,7 +37,9 @@ pub fn private_verdict(entry: &RmpEntry, at: &Place, op: &Op) -> Verdict
 #[tactic(auto, unfolding(snp_model::specs::Verdicts::shared_verdict))]
 pub fn shared_verdict(entry: &RmpEntry, at: &Place, op: &Op) -> Verdict
     requires { IsPlace at.now }
-    ensures { result ≡ shared_verdict entry.now at.now op.now }
+    ensures verdict { result ≡ shared_verdict entry.now at.now op.now }
+    ensures unassigned { entry.now.assigned ≡ false → result ≡ Pass }
+    ensures assigned { entry.now.assigned ≡ true → result ≢ Pass }
 {
     if entry.assigned && writes(op) {
         let fault = NestedFault {
@@ -53,23 +59,10 @@ pub fn shared_verdict(entry: &RmpEntry, at: &Place, op: &Op) -> Verdict
     }
 }
 
-/// The verdict on the hypervisor's access to a frame with this entry.
-#[tactic(auto, unfolding(snp_model::specs::Verdicts::host_verdict))]
-pub fn host_verdict(entry: &RmpEntry, op: &Op) -> Verdict
-    ensures { result ≡ host_verdict entry.now op.now }
-{
-    if entry.assigned && writes(op) {
-        Verdict::Fault(Outcome::Pf(0x8000_0003))
-    } else if entry.assigned {
-        Verdict::Hidden
-    } else {
-        Verdict::Pass
-    }
-}
-
 // A private access is refused by the RMP: by the VMPL's permissions, or before.
 fn private_refusal(at: &Place, op: &Op, by_permissions: bool) -> Verdict
-    ensures { result ≡ private_refusal at.now op.now by_permissions }
+    ensures verdict { result ≡ private_refusal at.now op.now by_permissions }
+    ensures faults { result ≢ Pass }
 {
     let fault = NestedFault {
         present: true,
