@@ -3,5 +3,7 @@
 
 mod checked;
 mod operation;
+#[cfg(test)]
+mod tests;
 
 pub use checked::{access, host_access};

@@ -2,5 +2,7 @@
 #![tactic(auto)]
 
 mod region;
+#[cfg(test)]
+mod tests;
 
 pub use region::Region;
