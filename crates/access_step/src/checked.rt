@@ -15,16 +15,14 @@ use snp_model::{Op, Outcome, Place, RmpEntry, Verdict};
 /// A guest's access to a word of a region, private or shared, with its RMP check. Takes no memory.
 pub fn access(memory: &mut Region, rmp: &RmpRegion, at: &Place, op: &Op) -> Outcome
     requires { IsPlace at.now }
-    ensures outcome {
-        let verdict = guest_verdict (facts_at rmp.now at.now.slot) at.now op.now in
+    ensures outcome { let verdict = guest_verdict (facts_at rmp.now at.now.slot) at.now op.now in
         result ≡ answer_by verdict op.now (word_at memory.old at.now.slot at.now.index) }
-    ensures memory {
-        let verdict = guest_verdict (facts_at rmp.now at.now.slot) at.now op.now in
+    ensures memory { let verdict = guest_verdict (facts_at rmp.now at.now.slot) at.now op.now in
         memory.new ≡ memory_by verdict op.now memory.old at.now.slot at.now.index }
 
     // A fault, or the answer that the word is opaque, changes nothing.
-    ensures refused {
-        guest_verdict (facts_at rmp.now at.now.slot) at.now op.now ≢ Pass → memory.new ≡ memory.old }
+    ensures refused { guest_verdict (facts_at rmp.now at.now.slot) at.now op.now ≢ Pass
+        → memory.new ≡ memory.old }
     // A load changes nothing, and a compare that finds another word writes nothing.
     ensures load { op.now ≡ Load → memory.new ≡ memory.old }
     ensures missed { (expected next : ℕ) → op.now ≡ Compare expected next
@@ -38,13 +36,19 @@ pub fn access(memory: &mut Region, rmp: &RmpRegion, at: &Place, op: &Op) -> Outc
 }
 
 /// A hypervisor's access to a word of a region, with its RMP check. Takes no memory.
-pub fn host_access(memory: &mut Region, rmp: &RmpRegion, slot: usize, index: usize, op: &Op) -> Outcome
+pub fn host_access(
+    memory: &mut Region,
+    rmp: &RmpRegion,
+    slot: usize,
+    index: usize,
+    op: &Op,
+) -> Outcome
     requires slot_below { slot < 512 }
     requires index_below { index < 512 }
-    ensures outcome {
-        result ≡ answer_by (host_verdict (facts_at rmp.now slot) op.now) op.now (word_at memory.old slot index) }
-    ensures memory {
-        memory.new ≡ memory_by (host_verdict (facts_at rmp.now slot) op.now) op.now memory.old slot index }
+    ensures outcome { let verdict = host_verdict (facts_at rmp.now slot) op.now in
+        result ≡ answer_by verdict op.now (word_at memory.old slot index) }
+    ensures memory { let verdict = host_verdict (facts_at rmp.now slot) op.now in
+        memory.new ≡ memory_by verdict op.now memory.old slot index }
 
     // A fault, or the answer that the word is opaque, changes nothing.
     ensures refused { host_verdict (facts_at rmp.now slot) op.now ≢ Pass → memory.new ≡ memory.old }

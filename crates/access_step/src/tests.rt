@@ -9,8 +9,15 @@ use rmp_table::RmpRegion;
 use snp_model::{Kind, Op, Outcome, PageSize, Place, RmpEntry};
 use std::test::Fail;
 
-const COMPARE: Op = Op::Compare { expected: 6, next: 9 };
-const MISSED: Op = Op::Compare { expected: 5, next: 9 };
+const COMPARE: Op = Op::Compare {
+    expected: 6,
+    next: 9,
+};
+
+const MISSED: Op = Op::Compare {
+    expected: 5,
+    next: 9,
+};
 
 // A page of guest 7 at 0x40, which VMPL1 may read only.
 fn page() -> RmpEntry {
@@ -50,7 +57,10 @@ fn accesses(rt: HostRuntime) -> Result<(), Fail> {
     let mut rmp = RmpRegion::free(rt.alloc())?;
     let free = rmp.effective(9);
     assert_eq!(rt; free, RmpEntry::free());
-    let stale = RmpEntry { validated: false, ..page() };
+    let stale = RmpEntry {
+        validated: false,
+        ..page()
+    };
     let refused = Outcome::Npf(0x5_8000_0007);
     let shared = Outcome::Npf(0x1_8000_0007);
     // The entry, the VMPL, whether private, the operation; the outcome, and what becomes of the word 6.
@@ -60,9 +70,36 @@ fn accesses(rt: HostRuntime) -> Result<(), Fail> {
         (page(), 0, true, Op::Store(8), Outcome::Stored, 8),
         (page(), 0, true, Op::Swap(8), Outcome::Swapped(6), 8),
         (page(), 0, true, Op::Xor(3), Outcome::Swapped(6), 5),
-        (page(), 0, true, COMPARE, Outcome::Compared { found: 6, written: true }, 9),
-        (page(), 0, true, MISSED, Outcome::Compared { found: 6, written: false }, 6),
-        (page(), 1, true, Op::Store(8), Outcome::Npf(0x15_8000_0007), 6),
+        (
+            page(),
+            0,
+            true,
+            COMPARE,
+            Outcome::Compared {
+                found: 6,
+                written: true,
+            },
+            9,
+        ),
+        (
+            page(),
+            0,
+            true,
+            MISSED,
+            Outcome::Compared {
+                found: 6,
+                written: false,
+            },
+            6,
+        ),
+        (
+            page(),
+            1,
+            true,
+            Op::Store(8),
+            Outcome::Npf(0x15_8000_0007),
+            6,
+        ),
         (page(), 1, true, MISSED, Outcome::Npf(0x15_8000_0007), 6),
         (stale, 0, true, Op::Store(8), Outcome::Vc(0x404), 6),
         (free, 0, true, Op::Store(8), refused, 6),
@@ -78,12 +115,24 @@ fn accesses(rt: HostRuntime) -> Result<(), Fail> {
         rmp.write_entry(9, entry);
         let outcome = access(&mut memory, &rmp, &place(vmpl, private), &op);
         assert_eq!(rt; outcome, want, "{entry:?} {vmpl} {private} {op:?}");
-        assert_eq!(rt; memory.load(9, 3), word, "{entry:?} {vmpl} {private} {op:?}");
+        assert_eq!(rt;
+            memory.load(9, 3),
+            word,
+            "{entry:?} {vmpl} {private} {op:?}"
+        );
     }
     let host = [
         (free, Op::Load, Outcome::Loaded(6), 6),
         (free, Op::Xor(3), Outcome::Swapped(6), 5),
-        (free, MISSED, Outcome::Compared { found: 6, written: false }, 6),
+        (
+            free,
+            MISSED,
+            Outcome::Compared {
+                found: 6,
+                written: false,
+            },
+            6,
+        ),
         (page(), Op::Load, Outcome::Opaque, 6),
         (page(), Op::Store(8), Outcome::Pf(0x8000_0003), 6),
         (stale, COMPARE, Outcome::Pf(0x8000_0003), 6),
@@ -92,13 +141,20 @@ fn accesses(rt: HostRuntime) -> Result<(), Fail> {
         assert!(rt; entry.size == PageSize::Small);
         memory.store(9, 3, 6);
         rmp.write_entry(9, entry);
-        assert_eq!(rt; host_access(&mut memory, &rmp, 9, 3, &op), want, "host {entry:?} {op:?}");
+        assert_eq!(rt;
+            host_access(&mut memory, &rmp, 9, 3, &op),
+            want,
+            "host {entry:?} {op:?}"
+        );
         assert_eq!(rt; memory.load(9, 3), word, "host {entry:?} {op:?}");
     }
     for (page, index) in [(9, 2), (9, 4), (8, 3), (10, 3), (3, 9), (0, 0), (511, 511)] {
         assert!(rt; page < 512 && index < 512);
         assert_eq!(rt; memory.load(page, index), 0, "{page} {index}");
-        assert_eq!(rt; rmp.effective(if page == 9 { 0 } else { page }), RmpEntry::free());
+        assert_eq!(rt;
+            rmp.effective(if page == 9 { 0 } else { page }),
+            RmpEntry::free()
+        );
     }
     Ok(())
 }

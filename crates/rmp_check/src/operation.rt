@@ -12,7 +12,10 @@ pub fn reads(op: &Op) -> bool
         Op::Load => true,
         Op::Store(_) => false,
         Op::Swap(_) => true,
-        Op::Compare { expected: _, next: _ } => true,
+        Op::Compare {
+            expected: _,
+            next: _,
+        } => true,
         Op::Xor(_) => true,
     }
 }
@@ -25,7 +28,10 @@ pub fn writes(op: &Op) -> bool
         Op::Load => false,
         Op::Store(_) => true,
         Op::Swap(_) => true,
-        Op::Compare { expected: _, next: _ } => true,
+        Op::Compare {
+            expected: _,
+            next: _,
+        } => true,
         Op::Xor(_) => true,
     }
 }

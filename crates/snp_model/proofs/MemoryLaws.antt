@@ -1,6 +1,6 @@
 -- What a written word leaves of a region's words.
-use Rattle.std.proofs.Common.{◌≡◌, ◌≢◌, ℕ, ◌<◌, List, [], length, refl, ap, ◌∙◌, arith, slice_index_or, slice_set, set, get_or}
-use Rattle.std.proofs.lemmas.List.{set-get_or, get_or-set_same, get_or-set_other}
+use Rattle.std.proofs.Common.{◌≡◌, ℕ, List, [], ap, ◌∙◌, arith, set}
+use Rattle.std.proofs.lemmas.List.{set-get_or}
 use Rattle.std.proofs.lemmas.Grind.{common_steps}
 use Rattle.snp_model.specs.Memory.{page_at, word_at, with_word, OthersStay}
 

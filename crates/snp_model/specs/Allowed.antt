@@ -1,5 +1,5 @@
 -- What a private access needs in order to pass (APM volume 2, 15.36.10): every row of its table at once.
-use Rattle.std.specs.Prelude.{◌≡◌, Bool, true, false, not, ◌&&◌, slice_index}
+use Rattle.std.specs.Prelude.{◌≡◌, true, false, not, ◌&&◌, slice_index}
 use Rattle.snp_model.specs.declared.entry.RmpEntry.{RmpEntry}
 use Rattle.snp_model.specs.declared.access.Place.{Place}
 use Rattle.snp_model.specs.declared.item.Op.{Op}
