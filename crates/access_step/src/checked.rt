@@ -3,7 +3,7 @@ ghost use Rattle.snp_model.specs.declared.access.Verdict.TheVariants.{Pass};
 ghost use Rattle.snp_model.specs.declared.item.Op.TheVariants.{Load, Compare};
 ghost use Rattle.snp_model.specs.Accesses.{IsPlace, guest_verdict, answer_by, memory_by};
 ghost use Rattle.snp_model.specs.Entries.{facts_at};
-ghost use Rattle.snp_model.specs.Memory.{OthersStay, word_at};
+ghost use Rattle.snp_model.specs.RegionWords.{OthersStay, word_at};
 ghost use Rattle.snp_model.specs.Verdicts.{host_verdict};
 
 use crate::operation::operate;

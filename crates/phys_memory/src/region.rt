@@ -1,5 +1,5 @@
 ghost use Rattle.std.specs.Prelude.{◌≡◌, ◌≢◌, ◌==◌, ◌<◌, if◌then◌else◌, replicate, IfOk};
-ghost use Rattle.snp_model.specs.Memory.{IsRegion, page_at, word_at, with_page, with_word};
+ghost use Rattle.snp_model.specs.RegionWords.{IsRegion, OthersStay, page_at, word_at, page_set, word_set};
 
 use std::alloc::{AllocError, Global};
 use std::marker::Model;
@@ -12,7 +12,7 @@ pub struct Region {
 
 impl Model for Region {
     ghost use Rattle.std.specs.Prelude.{ℕ, List};
-    ghost use Rattle.snp_model.specs.Memory.{IsRegion};
+    ghost use Rattle.snp_model.specs.RegionWords.{IsRegion};
 
     ghost Value = { List (List ℕ) };
 
@@ -51,7 +51,8 @@ impl Region {
     pub fn store(&mut self, page: usize, index: usize, value: u64)
         requires page_below { page < 512 }
         requires index_below { index < 512 }
-        ensures { self.new ≡ with_word self.old page index value }
+        ensures memory { self.new ≡ word_set self.old page index value }
+        ensures others { OthersStay self.old self.new page index }
     {
         self.pages[page][index] = value;
     }
@@ -61,7 +62,8 @@ impl Region {
         requires page_below { page < 512 }
         requires index_below { index < 512 }
         ensures old { result ≡ word_at self.old page index }
-        ensures memory { self.new ≡ with_word self.old page index value }
+        ensures memory { self.new ≡ word_set self.old page index value }
+        ensures others { OthersStay self.old self.new page index }
     {
         let old = self.load(page, index);
         self.store(page, index, value);
@@ -73,8 +75,9 @@ impl Region {
         requires page_below { page < 512 }
         requires index_below { index < 512 }
         ensures old { result ≡ word_at self.old page index }
-        ensures found { result ≡ expected → self.new ≡ with_word self.old page index next }
+        ensures found { result ≡ expected → self.new ≡ word_set self.old page index next }
         ensures missed { result ≢ expected → self.new ≡ self.old }
+        ensures others { OthersStay self.old self.new page index }
     {
         let found = self.load(page, index);
         if found == expected {
@@ -94,7 +97,7 @@ impl Region {
     /// Copies a page in.
     pub fn page_copy_in(&mut self, page: usize, words: &[u64; 512])
         requires { page < 512 }
-        ensures { self.new ≡ with_page self.old page words.now }
+        ensures { self.new ≡ page_set self.old page words.now }
     {
         self.pages[page] = *words;
     }
@@ -102,7 +105,7 @@ impl Region {
     /// Fills a page with one value.
     pub fn page_fill(&mut self, page: usize, value: u64)
         requires { page < 512 }
-        ensures { self.new ≡ with_page self.old page (replicate 512 value) }
+        ensures { self.new ≡ page_set self.old page (replicate 512 value) }
     {
         self.pages[page] = [value; 512];
     }

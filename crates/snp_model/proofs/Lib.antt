@@ -1,1 +1,11 @@
+pub mod Adding
+pub mod CoreLaws
+pub mod GuestMemoryLaws
 pub mod MemoryLaws
+pub mod OpeningLaws
+pub mod OrderedLaws
+pub mod RegionLaws
+pub mod RoomLaws
+pub mod RunLaws
+pub mod SoundLaws
+pub mod UseLaws

@@ -7,8 +7,8 @@ use Rattle.snp_model.specs.declared.access.Verdict.TheVariants.{Pass, Hidden, Fa
 use Rattle.snp_model.specs.declared.item.Op.{Op}
 use Rattle.snp_model.specs.declared.event.Outcome.{Outcome}
 use Rattle.snp_model.specs.declared.event.Outcome.TheVariants.{Opaque}
-use Rattle.snp_model.specs.Operations.{outcome_of, word_after}
-use Rattle.snp_model.specs.Memory.{word_at, with_word}
+use Rattle.snp_model.specs.Operations.{writes, outcome_of, word_after}
+use Rattle.snp_model.specs.RegionWords.{word_at, word_set}
 use Rattle.snp_model.specs.Verdicts.{private_verdict, shared_verdict}
 
 -- the numbers of a place are in range
@@ -29,8 +29,13 @@ answer_by Pass op word = outcome_of op word
 answer_by Hidden op word = Opaque
 answer_by (Fault outcome) op word = outcome
 
--- the words once an access with this verdict to a word was made
+-- the words of a region after an operation on one of them
+abbrev pub words_after : Op → List (List ℕ) → ℕ → ℕ → List (List ℕ)
+words_after op pages page index =
+    if writes op then word_set pages page index (word_after op (word_at pages page index)) else pages
+
+-- the words once an access with this verdict to one of them was made
 abbrev pub memory_by : Verdict → Op → List (List ℕ) → ℕ → ℕ → List (List ℕ)
-memory_by Pass op pages page index = with_word pages page index (word_after op (word_at pages page index))
+memory_by Pass op pages page index = words_after op pages page index
 memory_by Hidden op pages page index = pages
 memory_by (Fault outcome) op pages page index = pages

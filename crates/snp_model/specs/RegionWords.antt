@@ -10,12 +10,12 @@ abbrev pub word_at : List (List ℕ) → ℕ → ℕ → ℕ
 word_at pages page index = slice_index (page_at pages page) index
 
 -- the pages with this one in place of one
-abbrev pub with_page : List (List ℕ) → ℕ → List ℕ → List (List ℕ)
-with_page pages page words = slice_set pages page words
+abbrev pub page_set : List (List ℕ) → ℕ → List ℕ → List (List ℕ)
+page_set pages page words = slice_set pages page words
 
 -- the pages with this word in place of one
-abbrev pub with_word : List (List ℕ) → ℕ → ℕ → ℕ → List (List ℕ)
-with_word pages page index value = with_page pages page (slice_set (page_at pages page) index value)
+abbrev pub word_set : List (List ℕ) → ℕ → ℕ → ℕ → List (List ℕ)
+word_set pages page index value = page_set pages page (slice_set (page_at pages page) index value)
 
 -- there are 512 pages, of 512 words each
 pub record IsRegion (pages : List (List ℕ)) : Type 0 where

@@ -1,0 +1,4 @@
+pub mod BuildingLaws
+pub mod MachineLaws
+pub mod OpeningLaws
+pub mod WalkLaws

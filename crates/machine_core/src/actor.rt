@@ -1,0 +1,189 @@
+ghost use Rattle.std.specs.Prelude.{◌≡◌, ◌+◌, ◌<◌, ◌≤◌, ◌^◌, ◌==◌, nat_le, length, None, IfOk, IsNone};
+ghost use Rattle.snp_model.specs.Opening.{opening_part};
+ghost use Rattle.snp_model.specs.Step.{line_at, passed_over, tries_again, last_after, part_after};
+ghost use Rattle.snp_model.specs.declared.event.Event.{Event};
+ghost use Rattle.snp_model.specs.State.{Contents};
+ghost use Rattle.machine_core.specs.Moves.{move_by};
+
+use crate::shown::Shown;
+use arrayvec::ArrayVec;
+use snp_model::{Actor, Deed, Event, Line, Listed, Outcome, Role};
+use std::alloc::{AllocError, Global};
+use std::marker::Model;
+
+/// An actor: its role, its script and where it stands in it.
+#[derive(Drop)]
+pub struct ActorState {
+    role: Role,
+    script: Listed<Line>,
+    item: usize,
+    attempt: u32,
+    deeds: ArrayVec<Deed, 32>,
+    last: Option<Outcome>,
+}
+
+impl Model for ActorState {
+    ghost use Rattle.std.specs.Prelude.{[], None, ◌<◌, ◌≤◌, ◌^◌, length};
+    ghost use Rattle.snp_model.specs.State.{ActorPart};
+
+    ghost Value = { ActorPart };
+
+    ghost view = { λ a. record { role = a.role; script = a.script; item = a.item; attempt = a.attempt; deeds = a.deeds.items; locks = []; context_lock = None; computed = None; last = a.last } };
+
+    ghost invariant = { λ a. length a.script < 2 ^ 32 };
+}
+
+impl ActorState {
+    /// An actor before its first item.
+    pub fn new(alloc: Global, actor: &Actor) -> Result<ActorState, AllocError>
+        requires { length actor.now.script < 2 ^ 32 }
+        ensures { IfOk result (λ part. part ≡ opening_part actor.now) }
+    {
+        Ok(ActorState {
+            role: actor.role,
+            script: Listed::from_slice(alloc, actor.script.as_slice())?,
+            item: 0,
+            attempt: 0,
+            deeds: ArrayVec::new(),
+            last: None,
+        })
+    }
+
+    /// What the actor is.
+    pub fn role(&self) -> Role
+        ensures { result ≡ self.now.role }
+    {
+        self.role
+    }
+
+    /// The deeds of the open attempt.
+    pub fn deeds(&self) -> &[Deed]
+        ensures { result.now ≡ self.now.deeds }
+    {
+        self.deeds.as_slice()
+    }
+
+    /// Whether the actor has passed its last item.
+    pub fn is_finished(&self) -> bool
+        ensures { result ≡ nat_le (length self.now.script) self.now.item }
+    {
+        self.script.len() <= self.item
+    }
+
+    /// The line that the actor is at.
+    pub fn line(&self) -> Line
+        requires { self.now.item < length self.now.script }
+        ensures { result ≡ line_at self.now.script self.now.item }
+    {
+        let script = self.script.as_slice();
+        script[self.item]
+    }
+
+    /// Takes down what an event shows, and gives the event.
+    #[tactic(auto, unfolding(snp_model::specs::Step::part_after, snp_model::specs::Step::position_after))]
+    pub fn take_down(&mut self, shown: Shown) -> Event
+        requires unfinished { self.old.item < length self.old.script }
+        requires room { IsNone shown.outcome → length self.old.deeds < 32 }
+        ensures event { result ≡ record { item = self.old.item; attempt = self.old.attempt; deed = shown.deed; outcome = shown.outcome } }
+        ensures part { (contents : Contents) → self.new ≡ part_after self.old (move_by shown contents self.old) shown.outcome }
+    {
+        let event = Event {
+            item: self.item as u32,
+            attempt: self.attempt,
+            deed: shown.deed,
+            outcome: shown.outcome,
+        };
+        match shown.outcome {
+            None => self.deeds.push(shown.deed),
+            Some(outcome) => {
+                let line = self.line();
+                if tries_again(&line, self.attempt, &outcome) {
+                    self.attempt += 1;
+                } else {
+                    self.item += 1 + passed_over(&outcome) as usize;
+                    self.attempt = 0;
+                }
+                self.deeds.clear();
+                self.last = last_after(self.last, outcome);
+            }
+        }
+        event
+    }
+}
+
+// Whether an item is attempted again after an outcome.
+fn tries_again(line: &Line, attempt: u32, outcome: &Outcome) -> bool
+    ensures { result ≡ tries_again line.now attempt outcome.now }
+{
+    match outcome {
+        Outcome::StatusInUse { .. } | Outcome::FirmwareInUse { .. } => attempt
+            < u32::from(line.retries),
+        Outcome::Loaded(_)
+        | Outcome::Opaque
+        | Outcome::Stored
+        | Outcome::Swapped(_)
+        | Outcome::Compared { .. }
+        | Outcome::Gp
+        | Outcome::Pf(_)
+        | Outcome::Npf(_)
+        | Outcome::Vc(_)
+        | Outcome::Offline
+        | Outcome::Status(_)
+        | Outcome::Carry(_)
+        | Outcome::Firmware(_)
+        | Outcome::BadTag { .. }
+        | Outcome::Next
+        | Outcome::Skipped(_) => false,
+    }
+}
+
+// How many items are passed over after an outcome.
+fn passed_over(outcome: &Outcome) -> u32
+    ensures { result ≡ passed_over outcome.now }
+{
+    match outcome {
+        Outcome::Skipped(count) => *count,
+        Outcome::Loaded(_)
+        | Outcome::Opaque
+        | Outcome::Stored
+        | Outcome::Swapped(_)
+        | Outcome::Compared { .. }
+        | Outcome::Gp
+        | Outcome::Pf(_)
+        | Outcome::Npf(_)
+        | Outcome::Vc(_)
+        | Outcome::Offline
+        | Outcome::Status(_)
+        | Outcome::Carry(_)
+        | Outcome::StatusInUse { .. }
+        | Outcome::Firmware(_)
+        | Outcome::FirmwareInUse { .. }
+        | Outcome::BadTag { .. }
+        | Outcome::Next => 0,
+    }
+}
+
+// The last outcome that isn't of a skip.
+fn last_after(last: Option<Outcome>, outcome: Outcome) -> Option<Outcome>
+    ensures { result ≡ last_after last outcome }
+{
+    match outcome {
+        Outcome::Next | Outcome::Skipped(_) => last,
+        Outcome::Loaded(_)
+        | Outcome::Opaque
+        | Outcome::Stored
+        | Outcome::Swapped(_)
+        | Outcome::Compared { .. }
+        | Outcome::Gp
+        | Outcome::Pf(_)
+        | Outcome::Npf(_)
+        | Outcome::Vc(_)
+        | Outcome::Offline
+        | Outcome::Status(_)
+        | Outcome::Carry(_)
+        | Outcome::StatusInUse { .. }
+        | Outcome::Firmware(_)
+        | Outcome::FirmwareInUse { .. }
+        | Outcome::BadTag { .. } => Some(outcome),
+    }
+}

@@ -1,0 +1,93 @@
+ghost use Rattle.std.specs.Prelude.{◌≡◌, ℕ, IfOk};
+ghost use Rattle.snp_model.specs.Opening.{opening};
+ghost use Rattle.snp_model.specs.Reading.{Valid};
+ghost use Rattle.std.specs.Bool.{OnTrue, OnFalse};
+ghost use Rattle.snp_model.specs.State.{IsUnfinished};
+ghost use Rattle.snp_model.specs.Step.{event_of, after};
+ghost use Rattle.machine_core.specs.Machine.{state_of};
+
+use crate::actor::ActorState;
+use crate::building::{make_actors, set_pages, set_words};
+use crate::event::next_event;
+use crate::memory::Memory;
+use snp_model::{Event, GuestSpec, Listed, Scenario};
+use std::alloc::{AllocError, Global};
+use std::marker::Model;
+
+/// A machine: memory, its guests, and its actors with their scripts. Contracts see the flat state that
+/// it is in by `state_of`.
+#[derive(Drop)]
+pub struct Machine {
+    memory: Memory,
+    guests: Listed<GuestSpec>,
+    actors: Vec<ActorState>,
+}
+
+impl Model for Machine {
+    ghost use Rattle.machine_core.specs.Machine.{MachineImage, IsMachine};
+
+    ghost Value = { MachineImage };
+
+    ghost view = { λ m. record { memory = m.memory; guests = m.guests; actors = m.actors.items } };
+
+    ghost invariant = { λ m. IsMachine (record { memory = m.memory; guests = m.guests; actors = m.actors.items }) };
+}
+
+impl Machine {
+    /// The machine at the opening of a scenario. Takes all memory that any later event needs.
+    pub fn build(alloc: Global, scenario: &Scenario) -> Result<Machine, AllocError>
+        requires { Valid scenario.now }
+        ensures { IfOk result (λ m. state_of m ≡ opening scenario.now) }
+    {
+        let guests = scenario.guests.as_slice();
+        let mut memory = Memory::zeroed(alloc, 512 * scenario.regions)?;
+        set_pages(&mut memory, guests, scenario.pages.as_slice());
+        set_words(&mut memory, scenario.words.as_slice());
+        let actors = make_actors(alloc, scenario.actors.as_slice())?;
+        let guests = Listed::from_slice(alloc, guests)?;
+        Ok(Machine {
+            memory,
+            guests,
+            actors,
+        })
+    }
+
+    /// Makes one event of an actor, numbered from 1. Takes no memory.
+    pub fn step(&mut self, actor: u32) -> Event
+        requires { IsUnfinished (state_of self.old) actor }
+        ensures event { result ≡ event_of (state_of self.old) actor }
+        ensures after { state_of self.new ≡ after (state_of self.old) actor }
+    {
+        let part = &mut self.actors[actor as usize - 1];
+        let shown = next_event(&mut self.memory, self.guests.as_slice(), part);
+        part.take_down(shown)
+    }
+
+    /// Whether an actor has passed its last item, or doesn't exist.
+    pub fn finished(&self, actor: u32) -> bool
+        ensures finished { OnTrue result (IsUnfinished (state_of self.now) actor → ⊥) }
+        ensures unfinished { OnFalse result (IsUnfinished (state_of self.now) actor) }
+    {
+        if actor == 0 {
+            return true;
+        }
+        match self.actors.get(actor as usize - 1) {
+            None => true,
+            Some(part) => part.is_finished(),
+        }
+    }
+
+    /// Whether every actor has passed its last item.
+    pub fn all_finished(&self) -> bool
+        ensures finished { OnTrue result ((actor : ℕ) → IsUnfinished (state_of self.now) actor → ⊥) }
+        ensures unfinished { OnFalse result ((actor : ℕ) × IsUnfinished (state_of self.now) actor) }
+    {
+        let count = self.actors.len() as u32;
+        'actors: for actor in 1..=count {
+            if !self.finished(actor) {
+                return false;
+            }
+        }
+        true
+    }
+}

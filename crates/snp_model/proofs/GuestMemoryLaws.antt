@@ -1,0 +1,160 @@
+-- Each guest's private accesses are one legal history of a memory of its own, whatever the schedule is.
+use Rattle.std.proofs.Common.{◌≡◌, ◌≢◌, ℕ, zero, suc, ◌-◌, ◌<◌, ◌≤◌, true, List, [], ◌∷◌, length, map, get_or, None, refl, sym, ap, ◌∙◌, subst, arith}
+use Rattle.std.specs.List.{AllByRecursion}
+use Rattle.std.proofs.lemmas.Bool.Decides.{nat_tests}
+use Rattle.snp_model.specs.declared.entry.PageSize.{PageSize}
+use Rattle.snp_model.specs.declared.entry.PageSize.TheVariants.{Small}
+use Rattle.snp_model.specs.declared.scenario.Actor.{Actor}
+use Rattle.snp_model.specs.declared.scenario.GuestSpec.{GuestSpec}
+use Rattle.snp_model.specs.declared.scenario.PageSpec.{PageSpec}
+use Rattle.snp_model.specs.declared.scenario.Role.{Role}
+use Rattle.snp_model.specs.declared.scenario.Role.TheVariants.{Cpu, Host, Firmware}
+use Rattle.snp_model.specs.declared.scenario.Scenario.{Scenario}
+use Rattle.snp_model.specs.Locks.{in_range, view_of}
+use Rattle.snp_model.specs.State.{Contexts, State, part_of, idle_part, zero_words}
+use Rattle.snp_model.specs.Step.{line_at, event_of, after}
+use Rattle.snp_model.specs.Opening.{frames_in, asid_of, words_from, opening, opening_part, opening_contexts}
+use Rattle.snp_model.specs.Run.{state_from, state_after, IsDefined}
+use Rattle.snp_model.specs.Sound.{Pairwise, IsSound, AsidsDiffer, IsPage, GpnsDiffer, IsActor, IsRole}
+use Rattle.snp_model.specs.GuestMemory.{Memory, next_use, used, opening_memory, memory_from, memory_after, IsLegalFrom, IsLegal, AreLegal}
+use Rattle.snp_model.specs.Holders.{Archive, Core}
+use Rattle.snp_model.proofs.RunLaws.{after_keeps}
+use Rattle.snp_model.proofs.UseLaws.{AreWhole, RoleOwns, Fine, item_fine}
+use Rattle.snp_model.proofs.OpeningLaws.{IsApartFrom, RangesApart, opening_core, opening_whole, opening_asid}
+
+-- what a state keeps for a guest, beside the guest's memory
+pub record Keeps (guest asid : ℕ) (archive : Archive) (m : State) (memory : Memory) : Type 0 where
+  pub core : Core m.contents.pages archive asid memory
+  pub whole : AreWhole m.contents.pages
+  pub owns : (actor : ℕ) → RoleOwns guest asid m.contents.contexts (part_of m actor).role
+
+-- an event of any actor
+step_fine : (guest asid : ℕ) (archive : Archive) (m : State) (memory : Memory) (actor : ℕ) → Keeps guest asid archive m memory
+    → Fine asid archive memory m.contents (after m actor).contents (next_use guest m actor)
+unfolding after next_use event_of
+step_fine guest asid archive m memory actor keeps =
+    let part = part_of m actor in
+    (item_fine guest asid archive memory m.frames (view_of m) part part.role (line_at part.script part.item).item
+    (record { core = keeps.core; whole = keeps.whole }) (keeps.owns actor)).fine
+
+-- the ASIDs stay
+owns_after : (guest asid : ℕ) (old new : Contexts) (role : Role) → ((h : ℕ) → (new h).asid ≡ (old h).asid) → RoleOwns guest asid old role → RoleOwns guest asid new role
+owns_after guest asid old new (Cpu owner vmpl npt paging) same owns =
+    record { own = λ is. same owner ∙ owns.own is; other = λ different e. owns.other different (sym (same owner) ∙ e) }
+owns_after guest asid old new Host same owns = tt
+owns_after guest asid old new Firmware same owns = tt
+
+step_keeps : (guest asid : ℕ) (archive : Archive) (m : State) (memory : Memory) (actor : ℕ) → Keeps guest asid archive m memory
+    → Keeps guest asid archive (after m actor) (used (next_use guest m actor) memory)
+step_keeps guest asid archive m memory actor keeps =
+    let fine = step_fine guest asid archive m memory actor keeps in
+    record {
+      core = fine.core;
+      whole = fine.whole;
+      owns = λ other.
+          owns_after guest asid m.contents.contexts (after m actor).contents.contexts (part_of (after m actor) other).role fine.asids
+          (subst (RoleOwns guest asid m.contents.contexts) (sym (after_keeps m actor other).role) (keeps.owns other));
+    }
+
+-- so a run from a state on
+pub run_keeps : (guest asid : ℕ) (archive : Archive) (m : State) (memory : Memory) (s : List ℕ) → Keeps guest asid archive m memory
+    → Keeps guest asid archive (state_from m s) (memory_from guest m memory s)
+unfolding state_from memory_from
+run_keeps guest asid archive m memory [] keeps = keeps
+run_keeps guest asid archive m memory (a ∷ s) keeps =
+    run_keeps guest asid archive (after m a) (used (next_use guest m a) memory) s (step_keeps guest asid archive m memory a keeps)
+
+pub run_legal : (guest asid : ℕ) (archive : Archive) (m : State) (memory : Memory) (s : List ℕ) → Keeps guest asid archive m memory → IsLegalFrom guest m memory s
+unfolding IsLegalFrom
+run_legal guest asid archive m memory [] keeps = tt
+run_legal guest asid archive m memory (a ∷ s) keeps = (
+  (step_fine guest asid archive m memory a keeps).legal,
+  run_legal guest asid archive (after m a) (used (next_use guest m a) memory) s (step_keeps guest asid archive m memory a keeps),
+)
+
+-- two guests have two ASIDs
+asid_at : (guests : List GuestSpec) (k : ℕ) → ℕ
+asid_at guests k = get_or (map (λ (spec : GuestSpec). spec.asid) guests) k 0
+
+differ_first : (first : GuestSpec) (guests : List GuestSpec) (k : ℕ) → k < length guests → AllByRecursion (AsidsDiffer first) guests → first.asid ≢ asid_at guests k
+unfolding asid_at
+differ_first first [] k within all = absurd (omega arith)
+differ_first first (spec ∷ guests) zero within all = all.0
+differ_first first (spec ∷ guests) (suc k) within all = differ_first first guests k (omega arith) all.1
+
+differ_at : (guests : List GuestSpec) (j k : ℕ) → j < length guests → k < length guests → j ≢ k → Pairwise AsidsDiffer guests → asid_at guests j ≢ asid_at guests k
+unfolding asid_at
+differ_at [] j k inj ink apart all = absurd (omega arith)
+differ_at (spec ∷ guests) zero zero inj ink apart all = absurd (apart refl)
+differ_at (spec ∷ guests) zero (suc k) inj ink apart all = differ_first spec guests k (omega arith) all.0
+differ_at (spec ∷ guests) (suc j) zero inj ink apart all = λ e. differ_first spec guests j (omega arith) all.0 (sym e)
+differ_at (spec ∷ guests) (suc j) (suc k) inj ink apart all = differ_at guests j k (omega arith) (omega arith) (λ e. apart (ap suc e)) all.1
+
+asids_differ : (c : Scenario) → IsSound c → (g h : ℕ) → 0 < g → g ≤ length c.guests → 0 < h → h ≤ length c.guests → g ≢ h → asid_of c.guests g ≢ asid_of c.guests h
+unfolding asid_at
+asids_differ c sound g h some_g most_g some_h most_h apart =
+    differ_at c.guests (g - 1) (h - 1) (omega arith) (omega arith) (λ e. apart (omega arith)) sound.asids_differ
+
+-- so the opening keeps them apart
+pages_apart : (c : Scenario) (guest : ℕ) → IsSound c → 0 < guest → guest ≤ length c.guests → (frames : ℕ) (pages : List PageSpec) → AllByRecursion (IsPage frames (length c.guests)) pages
+    → AllByRecursion (IsApartFrom c.guests guest) pages
+pages_apart c guest sound some most frames [] all = tt
+pages_apart c guest sound some most frames (page ∷ pages) all =
+    (record { other = λ different. asids_differ c sound page.guest guest all.0.guest_some all.0.guest_most some most different }, pages_apart c guest sound some most frames pages all.1)
+
+small_range : (page : PageSpec) (q : ℕ) → page.size ≡ Small → in_range page.gpn (frames_in page.size) q ≡ true → q ≡ page.gpn
+small_range page q small inside =
+    let one : in_range page.gpn 1 q ≡ true = subst (λ (size : PageSize). in_range page.gpn (frames_in size) q ≡ true) small inside in
+    grind (arith, nat_tests)
+
+ranges_from : (frames guests : ℕ) (page : PageSpec) (others : List PageSpec) → IsPage frames guests page → AllByRecursion (IsPage frames guests) others → AllByRecursion (GpnsDiffer page) others
+    → AllByRecursion (RangesApart page) others
+ranges_from frames guests page [] is all differ = tt
+ranges_from frames guests page (other ∷ others) is all differ =
+    (record { apart = λ q same a b. differ.0 same (sym (small_range page q is.size a) ∙ small_range other q all.0.size b) }, ranges_from frames guests page others is all.1 differ.1)
+
+ranges_apart : (frames guests : ℕ) (pages : List PageSpec) → AllByRecursion (IsPage frames guests) pages → Pairwise GpnsDiffer pages → Pairwise RangesApart pages
+ranges_apart frames guests [] all differ = tt
+ranges_apart frames guests (page ∷ pages) all differ =
+    (ranges_from frames guests page pages all.0 all.1 differ.0, ranges_apart frames guests pages all.1 differ.1)
+
+-- each actor is of a declared guest, or of none
+declared_owns : (c : Scenario) (guest : ℕ) (frames : ℕ) (role : Role) → IsSound c → 0 < guest → guest ≤ length c.guests → IsRole frames (length c.guests) role
+    → RoleOwns guest (asid_of c.guests guest) (opening_contexts c.guests) role
+declared_owns c guest frames (Cpu owner vmpl npt paging) sound some most is = record {
+  own = λ same. opening_asid c.guests owner ∙ ap (asid_of c.guests) same;
+  other = λ different e. asids_differ c sound owner guest is.guest_some is.guest_most some most different (sym (opening_asid c.guests owner) ∙ e);
+}
+declared_owns c guest frames Host sound some most is = tt
+declared_owns c guest frames Firmware sound some most is = tt
+
+actors_own : (c : Scenario) (guest : ℕ) (frames : ℕ) (actors : List Actor) (k : ℕ) → IsSound c → 0 < guest → guest ≤ length c.guests → AllByRecursion (IsActor frames (length c.guests)) actors
+    → RoleOwns guest (asid_of c.guests guest) (opening_contexts c.guests) (get_or (map opening_part actors) k idle_part).role
+unfolding idle_part
+actors_own c guest frames [] k sound some most all = tt
+actors_own c guest frames (actor ∷ actors) zero sound some most all = declared_owns c guest frames actor.role sound some most all.0.role
+actors_own c guest frames (actor ∷ actors) (suc k) sound some most all = actors_own c guest frames actors k sound some most all.1
+
+pub opening_keeps : (c : Scenario) (guest : ℕ) (archive : Archive) → IsSound c → 0 < guest → guest ≤ length c.guests
+    → Keeps guest (asid_of c.guests guest) archive (opening c) (opening_memory c guest)
+unfolding opening opening_memory
+opening_keeps c guest archive sound some most = record {
+  core = opening_core c.guests guest c.pages (words_from (λ _. zero_words) c.words) archive
+      (pages_apart c guest sound some most _ c.pages sound.pages) (ranges_apart _ (length c.guests) c.pages sound.pages sound.gpns_differ);
+  whole = opening_whole c.words;
+  owns = λ actor. actors_own c guest _ c.actors (actor - 1) sound some most sound.actors;
+}
+
+-- in each state of a run each page of a declared guest has at most one holder, with the words of the guest's memory
+pub state_keeps_core : (c : Scenario) (s : List ℕ) (archive : Archive) → IsSound c → (guest : ℕ) → 0 < guest → guest ≤ length c.guests
+    → Core (state_after c s).contents.pages archive (asid_of c.guests guest) (memory_after c s guest)
+state_keeps_core c s archive sound guest some most =
+    (run_keeps guest (asid_of c.guests guest) archive (opening c) (opening_memory c guest) s (opening_keeps c guest archive sound some most)).core
+
+-- and each declared guest's private accesses are one legal history of its memory
+pub guest_memory_legal : (c : Scenario) (s : List ℕ) → IsSound c → IsDefined c s → (guest : ℕ) → 0 < guest → guest ≤ length c.guests → IsLegal c s guest
+guest_memory_legal c s sound defined guest some most =
+    run_legal guest (asid_of c.guests guest) (λ _ _. None) (opening c) (opening_memory c guest) s (opening_keeps c guest (λ _ _. None) sound some most)
+
+pub guests_are_legal : (c : Scenario) (s : List ℕ) → IsSound c → IsDefined c s → AreLegal c s
+guests_are_legal c s sound defined guest some most = guest_memory_legal c s sound defined guest some most

@@ -1,0 +1,330 @@
+-- A run has at most 32 events for each attempt: each event leaves less room.
+use Rattle.std.proofs.Common.{◌≡◌, ℕ, zero, suc, ◌+◌, ◌-◌, ◌*◌, ◌/◌, ◌<◌, ◌≤◌, Bool, true, false, not, ◌&&◌, ◌||◌, nat_lt, List, [], ◌∷◌, ◌++◌, length, map, get_or, set, drop, Option, Some, None, refl, sym, ap, ◌∙◌, subst, ⊎_elim, arith}
+use Rattle.std.proofs.lemmas.Bool.{cond_both, ltb-true, true≢false, cases_eq}
+use Rattle.std.proofs.lemmas.List.{length_push, drop-drop}
+use Rattle.std.proofs.lemmas.List.Elements.{All-set, All-map}
+use Rattle.snp_model.specs.declared.entry.PageSize.{PageSize}
+use Rattle.snp_model.specs.declared.entry.PageSize.TheVariants.{Small}
+use Rattle.snp_model.specs.declared.event.Deed.{Deed}
+use Rattle.snp_model.specs.declared.event.Deed.TheVariants as deeds
+use Rattle.snp_model.specs.declared.event.Outcome.{Outcome}
+use Rattle.snp_model.specs.declared.event.Outcome.TheVariants as outcomes
+use Rattle.snp_model.specs.declared.item.Line.{Line}
+use Rattle.snp_model.specs.declared.walk.NestedPath.{NestedPath}
+use Rattle.snp_model.specs.declared.walk.NestedEnd.{NestedEnd}
+use Rattle.snp_model.specs.declared.walk.NestedEnd.TheVariants as ends
+use Rattle.snp_model.specs.NestedWalk.{after_word, walk_from, walk_fault, frame_below, has_bit, first_read, nested_end}
+use Rattle.snp_model.specs.declared.scenario.Actor.{Actor}
+use Rattle.snp_model.specs.declared.scenario.Scenario.{Scenario}
+use Rattle.snp_model.specs.State.{ActorPart, Context, Contents, State, View, part_of, idle_part, IsUnfinished}
+use Rattle.snp_model.specs.Locks.{view_of}
+use Rattle.snp_model.specs.Verdicts.{private_verdict, host_verdict}
+use Rattle.snp_model.specs.declared.access.Verdict.{Verdict}
+use Rattle.snp_model.specs.declared.access.Verdict.TheVariants.{Pass, Hidden, Fault}
+use Rattle.snp_model.specs.declared.item.Item.{Item}
+use Rattle.snp_model.specs.declared.item.Item.TheVariants.{Access}
+use Rattle.snp_model.specs.declared.item.Op.{Op}
+use Rattle.snp_model.specs.declared.scenario.Paging.TheVariants.{Flat}
+use Rattle.snp_model.specs.declared.scenario.Role.{Role}
+use Rattle.snp_model.specs.declared.scenario.Role.TheVariants.{Cpu, Host}
+use Rattle.snp_model.specs.Step.{Position, Move, step_of, after, part_after, position_after, tries_again, passed_over, item_move, line_at, nested_words, is_running, is_canonical, quiet_move, unbuilt_move, access_move, begin_move, nested_move, flat_move, flat_access, host_access, flat_path, flat_place, flat_gpn, index_of, table_word, Processor}
+use Rattle.snp_model.specs.Opening.{opening, opening_part}
+use Rattle.snp_model.specs.Run.{state_from, state_after, IsDefinedFrom, IsDefined}
+use Rattle.snp_model.specs.Attempts.{script_attempts, actors_attempts, attempts_of}
+use Rattle.snp_model.specs.Room.{lines_room, part_room, parts_room, room_of, IsShort, IsBounded, AreBounded}
+use Rattle.snp_model.proofs.RunLaws.{unfinished_at}
+
+-- the lines of a script from one of them on
+drop_here : (script : List Line) (item : ℕ) → item < length script → drop item script ≡ line_at script item ∷ drop (suc item) script
+drop_here [] item h = absurd (omega arith)
+drop_here (l ∷ ls) zero h = refl
+drop_here (l ∷ ls) (suc item) h = drop_here ls item (omega arith)
+
+-- before its first event a list of lines has 32 events for each attempt
+lines_start : (ls : List Line) → lines_room ls 0 0 ≡ 32 * script_attempts ls
+unfolding lines_room script_attempts
+lines_start [] = refl
+lines_start (l ∷ ls) = omega arith
+
+drop_fewer : (n : ℕ) (ls : List Line) → script_attempts (drop n ls) ≤ script_attempts ls
+unfolding script_attempts
+drop_fewer zero ls = omega arith
+drop_fewer (suc n) [] = omega arith
+drop_fewer (suc n) (l ∷ ls) = let rest = drop_fewer n ls in omega arith
+
+-- one more event of an attempt, the next attempt, and the lines after it
+line_grows : (l : Line) (ls : List Line) (attempt made : ℕ) → attempt ≤ l.retries → made < 32 → lines_room (l ∷ ls) attempt (made + 1) < lines_room (l ∷ ls) attempt made
+unfolding lines_room
+line_grows l ls attempt made within short = omega arith
+
+line_retried : (l : Line) (ls : List Line) (attempt made : ℕ) → attempt < l.retries → made < 32 → lines_room (l ∷ ls) (attempt + 1) 0 < lines_room (l ∷ ls) attempt made
+unfolding lines_room
+line_retried l ls attempt made within short = omega arith
+
+line_closes : (l : Line) (ls : List Line) (attempt made n : ℕ) → attempt ≤ l.retries → made < 32 → lines_room (drop n ls) 0 0 < lines_room (l ∷ ls) attempt made
+unfolding lines_room
+line_closes l ls attempt made n within short = let start = lines_start (drop n ls) in let fewer = drop_fewer n ls in omega arith
+
+-- an outcome that leaves retries is tried again
+again_within : (line : Line) (attempt : ℕ) (outcome : Outcome) → tries_again line attempt outcome ≡ true → attempt < line.retries
+again_within line attempt (outcomes.StatusInUse holder) e = ltb-true attempt line.retries e
+again_within line attempt (outcomes.FirmwareInUse holder) e = ltb-true attempt line.retries e
+again_within line attempt outcome e = absurd (true≢false (sym e))
+
+-- what is left at the place after an attempt, of which some events were made
+record LeavesLess (script : List Line) (at : Position) (made : ℕ) (q : Position) : Type 0 where
+  room : lines_room (drop q.item script) q.attempt 0 < lines_room (drop at.item script) at.attempt made
+  within : q.item < length script → q.attempt ≤ (line_at script q.item).retries
+
+position_lowers : (script : List Line) (at : Position) (outcome : Outcome) (made : ℕ) → at.item < length script → at.attempt ≤ (line_at script at.item).retries → made < 32
+    → LeavesLess script at made (position_after (line_at script at.item) at outcome)
+unfolding position_after
+position_lowers script at outcome made has within short =
+    let line = line_at script at.item in
+    let here = drop_here script at.item has in
+    cond_both (tries_again line at.attempt outcome) _ _ (LeavesLess script at made)
+    (λ again. record {
+      room = rw here (line_retried line (drop (suc at.item) script) at.attempt made (again_within line at.attempt outcome again) short);
+      within = λ _. let less = again_within line at.attempt outcome again in omega arith;
+    })
+    (λ over.
+    let n = passed_over outcome in
+    let place : at.item + 1 + n ≡ suc at.item + n = omega arith in
+    let rest = ap (λ (k : ℕ). drop k script) place ∙ sym (drop-drop n (suc at.item) script) in
+    record {
+      room = rw (rest, here) (line_closes line (drop (suc at.item) script) at.attempt made n within short);
+      within = λ _. omega arith;
+    })
+
+-- a walk that reads on has read fewer words than it has levels
+record IsNotRead (frame index : ℕ) (stands : NestedEnd) : Type 0 where
+  reads_not : stands ≡ ends.Read frame index → ⊥
+
+fault_is_no_read : (path : NestedPath) (present : Bool) (frame index : ℕ) → IsNotRead frame index (walk_fault path present)
+fault_is_no_read path present frame index = record { reads_not = λ e. cc }
+
+leaf_is_no_read : (leaf : ℕ) (size : PageSize) (frame index : ℕ) → IsNotRead frame index (ends.Leaf leaf size)
+leaf_is_no_read leaf size frame index = record { reads_not = λ e. cc }
+
+last_word : (path : NestedPath) (word frame index : ℕ) → IsNotRead frame index (after_word path 1 word)
+unfolding after_word
+last_word path word frame index =
+    let P = IsNotRead frame index in
+    cond_both (not (has_bit word 0x1) || not (nat_lt (frame_below path 1 word) path.frames)) _ _ P (λ _. fault_is_no_read path false frame index)
+    (λ _. cond_both (not (has_bit word 0x4)) _ _ P (λ _. fault_is_no_read path true frame index)
+    (λ _. cond_both ((path.write || path.table) && not (has_bit word 0x2)) _ _ P (λ _. fault_is_no_read path true frame index)
+    (λ _. leaf_is_no_read (frame_below path 1 word) Small frame index)))
+
+-- where a walk that reads on stood before
+abbrev IsRead : NestedEnd → Type 0
+IsRead stands = (frame : ℕ) × (index : ℕ) × (stands ≡ ends.Read frame index)
+
+stood_at_read : (path : NestedPath) (level : ℕ) (stands : NestedEnd) (words : List ℕ) (frame index : ℕ) → walk_from path level stands words ≡ ends.Read frame index → IsRead stands
+unfolding walk_from
+stood_at_read path level (ends.Read f i) words frame index e = (f, i, refl)
+stood_at_read path level (ends.Leaf f s) words frame index e = cc
+stood_at_read path level (ends.Fault c) words frame index e = cc
+
+walk_reads : (path : NestedPath) (words : List ℕ) (level : ℕ) (stands : NestedEnd) (frame index : ℕ) → 0 < level → walk_from path level stands words ≡ ends.Read frame index → length words < level
+unfolding walk_from
+walk_reads path [] level stands frame index some e = some
+walk_reads path (w ∷ ws) level (ends.Leaf f size) frame index some e = absurd ((leaf_is_no_read f size frame index).reads_not e)
+walk_reads path (w ∷ ws) level (ends.Fault code) frame index some e = cc
+walk_reads path (w ∷ ws) level (ends.Read f i) frame index some e =
+    ⊎_elim
+    (λ (one : level ≡ 1).
+    let stood = stood_at_read path (level - 1) (after_word path level w) ws frame index e in
+    absurd ((last_word path w stood.0 stood.1).reads_not (subst (λ (l : ℕ). after_word path l w ≡ ends.Read stood.0 stood.1) one stood.2)))
+    (λ (more : level ≡ 1 → ⊥).
+    let rest = walk_reads path ws (level - 1) (after_word path level w) frame index (omega arith) e in
+    omega arith)
+    (cases_eq level 1)
+
+-- the words that deeds have read
+nested_words_append : (a b : List Deed) → nested_words (a ++ b) ≡ nested_words a ++ nested_words b
+unfolding nested_words
+nested_words_append [] b = refl
+nested_words_append (deeds.Nested f i v ∷ a) b = ap (λ (ws : List ℕ). v ∷ ws) (nested_words_append a b)
+nested_words_append (deed ∷ a) b = nested_words_append a b
+
+short_more : (ds : List Deed) (f i v : ℕ) → IsShort ds → length (nested_words ds) < 4 → IsShort (ds ++ deeds.Nested f i v ∷ [])
+unfolding nested_words
+short_more ds f i v short few =
+    let words = ap length (nested_words_append ds (deeds.Nested f i v ∷ [])) ∙ length_push (nested_words ds) v in
+    let made = length_push ds (deeds.Nested f i v) in
+    let walked = short.walked in
+    record { walked = omega arith; few = omega arith }
+
+short_begun : (ds : List Deed) → ds ≡ [] → IsShort (ds ++ deeds.Begin ∷ [])
+unfolding nested_words
+short_begun ds none = subst (λ (es : List Deed). IsShort (es ++ deeds.Begin ∷ [])) (sym none) (record { walked = omega arith; few = omega arith })
+
+-- a move leaves its attempt short, if it leaves it open
+record LeavesShort (part : ActorPart) (move : Move) : Type 0 where
+  open_is : move.outcome ≡ None → IsShort (part.deeds ++ move.deed ∷ [])
+
+unbuilt_short : (contents : Contents) (part : ActorPart) → LeavesShort part (unbuilt_move contents part)
+unbuilt_short contents part = record { open_is = λ none. cc }
+
+access_short : (contents : Contents) (part : ActorPart) (deed : Deed) (verdict : Verdict) (op : Op) (frame index : ℕ) → LeavesShort part (access_move contents part deed verdict op frame index)
+unfolding access_move
+access_short contents part deed Pass op frame index = record { open_is = λ none. cc }
+access_short contents part deed Hidden op frame index = record { open_is = λ none. cc }
+access_short contents part deed (Fault outcome) op frame index = record { open_is = λ none. cc }
+
+quiet_begun : (contents : Contents) (part : ActorPart) (outcome : Option Outcome) → part.deeds ≡ [] → LeavesShort part (quiet_move contents part deeds.Begin outcome)
+quiet_begun contents part outcome none = record { open_is = λ _. short_begun part.deeds none }
+
+begin_short : (contents : Contents) (part : ActorPart) (context : Context) (address : ℕ) → part.deeds ≡ [] → LeavesShort part (begin_move contents part context address)
+unfolding begin_move
+begin_short contents part context address none =
+    let begun = λ (outcome : Option Outcome). quiet_begun contents part outcome none in
+    cond_both (not (is_running context.state)) _ _ (LeavesShort part) (λ _. begun (Some outcomes.Offline))
+    (λ _. cond_both (not (is_canonical address)) _ _ (LeavesShort part) (λ _. begun (Some outcomes.Gp)) (λ _. begun None))
+
+flat_short : (frames : ℕ) (contents : Contents) (part : ActorPart) (cpu : Processor) (address : ℕ) (op : Op) (stands : NestedEnd)
+    → nested_end (flat_path frames cpu address op) (nested_words part.deeds) ≡ stands → IsShort part.deeds → LeavesShort part (flat_move frames contents part cpu address op stands)
+unfolding flat_move nested_move
+flat_short frames contents part cpu address op (ends.Read frame index) is short =
+    let path = flat_path frames cpu address op in
+    let few = walk_reads path (nested_words part.deeds) 4 (first_read path) frame index (omega arith) is in
+    record { open_is = λ _. short_more part.deeds frame index (table_word (contents.pages frame) index) short few }
+flat_short frames contents part cpu address op (ends.Leaf frame size) is short =
+    let place = flat_place (contents.contexts cpu.guest).asid cpu address frame size in
+    access_short contents part (deeds.Access (flat_gpn address) (index_of address) frame true) (private_verdict (contents.pages frame).facts place op) op frame (index_of address)
+flat_short frames contents part cpu address op (ends.Fault code) is short = unbuilt_short contents part
+
+flat_access_short : (frames : ℕ) (contents : Contents) (part : ActorPart) (cpu : Processor) (address : ℕ) (op : Op) (made : List Deed)
+    → part.deeds ≡ made → IsShort part.deeds → LeavesShort part (flat_access frames contents part cpu address op made)
+unfolding flat_access
+flat_access_short frames contents part cpu address op [] is short = begin_short contents part (contents.contexts cpu.guest) address is
+flat_access_short frames contents part cpu address op (deed ∷ others) is short =
+    flat_short frames contents part cpu address op _ (ap (λ (ds : List Deed). nested_end (flat_path frames cpu address op) (nested_words ds)) is) short
+
+-- so each item's move
+move_short : (frames : ℕ) (view : View) (part : ActorPart) (role : Role) (item : Item) → IsShort part.deeds → LeavesShort part (item_move frames view part role item)
+unfolding item_move host_access
+move_short frames view part (Cpu guest vmpl npt Flat) (Access address op) short =
+    flat_access_short frames view.contents part (record { guest = guest; vmpl = vmpl; npt = npt }) address op part.deeds refl short
+move_short frames view part Host (Access address op) short =
+    access_short view.contents part (deeds.Host (address / 4096) (index_of address)) (host_verdict (view.contents.pages (address / 4096)).facts op) op (address / 4096) (index_of address)
+move_short frames view part role item short = unbuilt_short view.contents part
+
+-- a short attempt has fewer deeds than an array of 32 holds, also with the next one
+pub deeds_short : (ds : List Deed) → IsShort ds → length ds < 32
+deeds_short ds short = let walked = short.walked in let few = short.few in omega arith
+
+-- a move lowers its actor's room, and leaves its part bounded
+record Lowers (old new : ActorPart) : Type 0 where
+  bounded : IsBounded new
+  less : part_room new < part_room old
+
+no_deeds_short : IsShort []
+unfolding nested_words
+no_deeds_short = record { walked = omega arith; few = omega arith }
+
+part_lowers : (p : ActorPart) (move : Move) (outcome : Option Outcome) → IsBounded p → p.item < length p.script → (outcome ≡ None → IsShort (p.deeds ++ move.deed ∷ [])) → Lowers p (part_after p move outcome)
+unfolding part_after part_room
+part_lowers p move None bounded has short =
+    let l = line_at p.script p.item in
+    let ls = drop (suc p.item) p.script in
+    let grows = line_grows l ls p.attempt (length p.deeds) (bounded.within has) (deeds_short p.deeds bounded.short) in
+    record {
+      bounded = record { short = short refl; within = bounded.within };
+      less = rw (drop_here p.script p.item has, length_push p.deeds move.deed) grows;
+    }
+part_lowers p move (Some outcome) bounded has short =
+    let lowers = position_lowers p.script (record { item = p.item; attempt = p.attempt }) outcome (length p.deeds) has (bounded.within has) (deeds_short p.deeds bounded.short) in
+    record { bounded = record { short = no_deeds_short; within = lowers.within }; less = lowers.room }
+
+set_lowers : (ps : List ActorPart) (k : ℕ) (x : ActorPart) → k < length ps → part_room x < part_room (get_or ps k idle_part) → parts_room (set ps k x) < parts_room ps
+unfolding parts_room
+set_lowers [] k x within less = absurd (omega arith)
+set_lowers (p ∷ ps) zero x within less = omega arith
+set_lowers (p ∷ ps) (suc k) x within less = let rest = set_lowers ps k x (omega arith) less in omega arith
+
+-- an event leaves less room, and every open attempt short
+pub record StepLowers (m new : State) : Type 0 where
+  pub bounded : AreBounded new
+  pub less : room_of new < room_of m
+
+pub step_lowers : (m : State) (actor : ℕ) → AreBounded m → IsUnfinished m actor → StepLowers m (after m actor)
+unfolding after room_of
+step_lowers m actor bounded unfinished =
+    let u = unfinished_at m actor unfinished in
+    let p = part_of m actor in
+    let move = item_move m.frames (view_of m) p p.role (line_at p.script p.item).item in
+    let own = bounded (actor - 1) idle_part u.within in
+    let lowers = part_lowers p move move.outcome own u.has_line (move_short m.frames (view_of m) p p.role (line_at p.script p.item).item own.short).open_is in
+    record {
+      bounded = All-set IsBounded m.actors (actor - 1) (part_after p move move.outcome) lowers.bounded bounded;
+      less = set_lowers m.actors (actor - 1) (part_after p move move.outcome) u.within lowers.less;
+    }
+
+-- a run of n events leaves at least n less
+pub record RunLowers (m : State) (s : List ℕ) : Type 0 where
+  pub bounded : AreBounded (state_from m s)
+  pub room : length s + room_of (state_from m s) ≤ room_of m
+
+pub run_lowers : (m : State) (s : List ℕ) → AreBounded m → IsDefinedFrom m s → RunLowers m s
+unfolding state_from IsDefinedFrom
+run_lowers m [] bounded d = record { bounded = bounded; room = omega arith }
+run_lowers m (a ∷ s) bounded d =
+    let first = step_lowers m a bounded d.0 in
+    let rest = run_lowers (after m a) s first.bounded d.1 in
+    let less = first.less in
+    let room = rest.room in
+    record { bounded = rest.bounded; room = omega arith }
+
+-- before an event of an unfinished actor there is room for it
+pub state_has_room : (m : State) (s : List ℕ) (actor : ℕ) → AreBounded m → IsDefinedFrom m s → IsUnfinished (state_from m s) actor → length s < room_of m
+state_has_room m s actor bounded d u =
+    let run = run_lowers m s bounded d in
+    let next = step_lowers (state_from m s) actor run.bounded u in
+    let room = run.room in
+    let less = next.less in
+    omega arith
+
+-- the opening has 32 events for each attempt
+opening_parts_room : (actors : List Actor) → parts_room (map opening_part actors) ≡ 32 * actors_attempts actors
+unfolding parts_room part_room actors_attempts
+opening_parts_room [] = refl
+opening_parts_room (a ∷ others) =
+    let first = lines_start a.script in
+    let rest = opening_parts_room others in
+    omega arith
+
+pub opening_room : (c : Scenario) → room_of (opening c) ≤ 32 * attempts_of c
+unfolding room_of opening attempts_of
+opening_room c = let same = opening_parts_room c.actors in omega arith
+
+opening_part_bounded : (a : Actor) → IsBounded (opening_part a)
+opening_part_bounded a = record { short = no_deeds_short; within = λ _. omega arith }
+
+pub opening_are : (c : Scenario) → AreBounded (opening c)
+unfolding opening
+opening_are c = All-map IsBounded opening_part c.actors (λ k d within. opening_part_bounded (get_or c.actors k d))
+
+-- so a run of a scenario has room for its next event in 32 events for each attempt
+pub run_has_room : (c : Scenario) (s : List ℕ) (actor : ℕ) → IsDefined c s → IsUnfinished (state_after c s) actor → length s < 32 * attempts_of c
+run_has_room c s actor d u =
+    let room = state_has_room (opening c) s actor (opening_are c) d u in
+    let opens = opening_room c in
+    omega arith
+
+pub run_length : (c : Scenario) (s : List ℕ) → IsDefined c s → length s ≤ 32 * attempts_of c
+run_length c s d =
+    let room = (run_lowers (opening c) s (opening_are c) d).room in
+    let opens = opening_room c in
+    omega arith
+
+-- the open attempt of an actor has fewer deeds than an array of 32 holds, before an event and after it
+pub state_deeds_short : (m : State) (actor : ℕ) → AreBounded m → actor - 1 < length m.actors → length (part_of m actor).deeds < 32
+state_deeds_short m actor bounded within = deeds_short (part_of m actor).deeds (bounded (actor - 1) idle_part within).short
+
+-- an actor's part stays bounded in its own step, whatever it looks at
+pub step_bounded : (frames : ℕ) (part : ActorPart) (view : View) → IsBounded part → part.item < length part.script → IsBounded (step_of frames part view).part
+step_bounded frames part view bounded has =
+    let item = (line_at part.script part.item).item in
+    let move = item_move frames view part part.role item in
+    (part_lowers part move move.outcome bounded has (move_short frames view part part.role item bounded.short).open_is).bounded

@@ -1,0 +1,287 @@
+-- Each event keeps the one holder of each page, and finds in the guest's memory what it needs.
+use Rattle.std.proofs.Common.{◌≡◌, ◌≢◌, ℕ, ◌/◌, ◌<◌, Bool, true, false, not, ◌&&◌, ◌||◌, eqb, slice_index, List, [], ◌∷◌, length, Option, Some, None, refl, sym, ◌∙◌, subst, arith}
+use Rattle.std.proofs.lemmas.Bool.{cond_both, eqb-true, eqb-false, true≢false}
+use Rattle.std.proofs.lemmas.Bool.Decides.{nat_tests}
+use Rattle.snp_model.specs.declared.access.Place.{Place}
+use Rattle.snp_model.specs.declared.access.Verdict.{Verdict}
+use Rattle.snp_model.specs.declared.access.Verdict.TheVariants.{Pass, Hidden, Fault}
+use Rattle.snp_model.specs.declared.entry.RmpEntry.{RmpEntry}
+use Rattle.snp_model.specs.declared.event.Deed.{Deed}
+use Rattle.snp_model.specs.declared.event.Deed.TheVariants as deeds
+use Rattle.snp_model.specs.declared.event.Outcome.{Outcome}
+use Rattle.snp_model.specs.declared.event.Outcome.TheVariants as outcomes
+use Rattle.snp_model.specs.declared.item.Item.{Item}
+use Rattle.snp_model.specs.declared.item.Item.TheVariants.{Access}
+use Rattle.snp_model.specs.declared.item.Op.{Op}
+use Rattle.snp_model.specs.declared.item.Op.TheVariants.{Load, Store, Swap, Compare, Xor}
+use Rattle.snp_model.specs.declared.scenario.Paging.{Paging}
+use Rattle.snp_model.specs.declared.scenario.Paging.TheVariants.{Flat}
+use Rattle.snp_model.specs.declared.scenario.Role.{Role}
+use Rattle.snp_model.specs.declared.scenario.Role.TheVariants.{Cpu, Host, Firmware}
+use Rattle.snp_model.specs.declared.walk.NestedEnd.{NestedEnd}
+use Rattle.snp_model.specs.declared.walk.NestedEnd.TheVariants as ends
+use Rattle.snp_model.specs.Operations.{outcome_of}
+use Rattle.snp_model.specs.Verdicts.{private_verdict, private_refusal, host_verdict, is_large, lacks}
+use Rattle.snp_model.specs.State.{Pages, Context, Contexts, Contents, ActorPart, View, word_of}
+use Rattle.snp_model.specs.Step.{Move, item_move, is_running, is_canonical, quiet_move, unbuilt_move, access_move, pages_after, begin_move, nested_move, flat_move, flat_access, host_access, flat_place, flat_gpn, index_of, Processor}
+use Rattle.snp_model.specs.GuestMemory.{Memory, Use, Untouched, use_of_word, use_of, use_for, IsLegalUse, used}
+use Rattle.snp_model.specs.Holders.{Archive, InFrame, IsHeldAs, Core}
+use Rattle.snp_model.proofs.CoreLaws.{with_word_length, core_writes_elsewhere, core_may_read, core_reads, core_writes}
+
+-- every frame has its 512 words
+abbrev pub AreWhole : Pages → Type 0
+AreWhole pages = (f : ℕ) → length (pages f).words ≡ 512
+
+-- the processor of a guest uses that guest's ASID, and no other guest's processor does
+pub record Owns (guest asid : ℕ) (contexts : Contexts) (owner : ℕ) : Type 0 where
+  pub own : owner ≡ guest → (contexts owner).asid ≡ asid
+  pub other : owner ≢ guest → (contexts owner).asid ≢ asid
+
+abbrev pub RoleOwns : ℕ → ℕ → Contexts → Role → Type 0
+RoleOwns guest asid contexts (Cpu owner vmpl npt paging) = Owns guest asid contexts owner
+RoleOwns guest asid contexts Host = Unit {0}
+RoleOwns guest asid contexts Firmware = Unit {0}
+
+-- before an event
+pub record Before (asid : ℕ) (archive : Archive) (memory : Memory) (old : Contents) : Type 0 where
+  pub core : Core old.pages archive asid memory
+  pub whole : AreWhole old.pages
+
+-- an event with this use leads from a state to another as it should
+pub record Fine (asid : ℕ) (archive : Archive) (memory : Memory) (old new : Contents) (does : Use) : Type 0 where
+  pub legal : IsLegalUse memory does
+  pub core : Core new.pages archive asid (used does memory)
+  pub whole : AreWhole new.pages
+  pub asids : (h : ℕ) → (new.contexts h).asid ≡ (old.contexts h).asid
+
+-- so a move of an item of an actor
+pub record MoveFine (guest asid : ℕ) (archive : Archive) (memory : Memory) (old : Contents) (role : Role) (item : Item) (move : Move) : Type 0 where
+  pub fine : Fine asid archive memory old move.contents (use_for guest role move.deed item move.outcome)
+
+-- only an access and a table do anything
+untouched_for : (guest : ℕ) (role : Role) (deed : Deed) (item : Item) (outcome : Option Outcome) → use_of deed item outcome ≡ Untouched → use_for guest role deed item outcome ≡ Untouched
+unfolding use_for
+untouched_for guest (Cpu owner vmpl npt paging) deed item outcome e = cond_both (eqb owner guest) _ _ (λ (does : Use). does ≡ Untouched) (λ _. e) (λ _. refl)
+untouched_for guest Host deed item outcome e = refl
+untouched_for guest Firmware deed item outcome e = refl
+
+-- an event that changes nothing
+nothing_fine : (asid : ℕ) (archive : Archive) (memory : Memory) (old : Contents) → Before asid archive memory old → Fine asid archive memory old old Untouched
+unfolding used
+nothing_fine asid archive memory old before = record { legal = tt; core = before.core; whole = before.whole; asids = λ h. refl }
+
+quiet_fine : (guest asid : ℕ) (archive : Archive) (memory : Memory) (old : Contents) (part : ActorPart) (role : Role) (item : Item) (deed : Deed) (outcome : Option Outcome)
+    → Before asid archive memory old → use_of deed item outcome ≡ Untouched → MoveFine guest asid archive memory old role item (quiet_move old part deed outcome)
+quiet_fine guest asid archive memory old part role item deed outcome before e = record {
+  fine = subst (λ (does : Use). Fine asid archive memory old old does) (sym (untouched_for guest role deed item outcome e)) (nothing_fine asid archive memory old before);
+}
+
+unbuilt_fine : (guest asid : ℕ) (archive : Archive) (memory : Memory) (old : Contents) (part : ActorPart) (role : Role) (item : Item)
+    → Before asid archive memory old → MoveFine guest asid archive memory old role item (unbuilt_move old part)
+unfolding use_of
+unbuilt_fine guest asid archive memory old part role item before = quiet_fine guest asid archive memory old part role item deeds.Control (Some outcomes.Next) before refl
+
+begin_fine : (guest asid : ℕ) (archive : Archive) (memory : Memory) (old : Contents) (part : ActorPart) (role : Role) (item : Item) (context : Context) (address : ℕ)
+    → Before asid archive memory old → MoveFine guest asid archive memory old role item (begin_move old part context address)
+unfolding begin_move use_of
+begin_fine guest asid archive memory old part role item context address before =
+    let quiet = λ (outcome : Option Outcome). quiet_fine guest asid archive memory old part role item deeds.Begin outcome before refl in
+    cond_both (not (is_running context.state)) _ _ (MoveFine guest asid archive memory old role item) (λ _. quiet (Some outcomes.Offline))
+    (λ _. cond_both (not (is_canonical address)) _ _ (MoveFine guest asid archive memory old role item) (λ _. quiet (Some outcomes.Gp)) (λ _. quiet None))
+
+-- a word written, or none
+pages_whole : (op : Op) (frame index word : ℕ) (pages : Pages) → AreWhole pages → AreWhole (pages_after op frame index word pages)
+pages_whole Load frame index word pages whole = whole
+pages_whole (Store value) frame index word pages whole = λ f. with_word_length frame index value pages f ∙ whole f
+pages_whole (Swap value) frame index word pages whole = λ f. with_word_length frame index value pages f ∙ whole f
+pages_whole (Compare expected next) frame index word pages whole = λ f. with_word_length frame index _ pages f ∙ whole f
+pages_whole (Xor value) frame index word pages whole = λ f. with_word_length frame index _ pages f ∙ whole f
+
+-- an access to a frame that holds nothing of the guest
+core_elsewhere : (op : Op) (frame index word : ℕ) (pages : Pages) (archive : Archive) (asid : ℕ) (memory : Memory) → ((gpn : ℕ) → IsHeldAs (pages frame).facts asid gpn → ⊥)
+    → Core pages archive asid memory → Core (pages_after op frame index word pages) archive asid memory
+core_elsewhere Load frame index word pages archive asid memory none core = core
+core_elsewhere (Store value) frame index word pages archive asid memory none core = core_writes_elsewhere frame index value pages archive asid memory none core
+core_elsewhere (Swap value) frame index word pages archive asid memory none core = core_writes_elsewhere frame index value pages archive asid memory none core
+core_elsewhere (Compare expected next) frame index word pages archive asid memory none core = core_writes_elsewhere frame index _ pages archive asid memory none core
+core_elsewhere (Xor value) frame index word pages archive asid memory none core = core_writes_elsewhere frame index _ pages archive asid memory none core
+
+elsewhere_fine : (asid : ℕ) (archive : Archive) (memory : Memory) (old : Contents) (op : Op) (frame index word : ℕ) → Before asid archive memory old
+    → ((gpn : ℕ) → IsHeldAs (old.pages frame).facts asid gpn → ⊥) → Fine asid archive memory old (record old { pages = pages_after op frame index word old.pages }) Untouched
+unfolding used
+elsewhere_fine asid archive memory old op frame index word before none = record {
+  legal = tt;
+  core = core_elsewhere op frame index word old.pages archive asid memory none before.core;
+  whole = pages_whole op frame index word old.pages before.whole;
+  asids = λ h. refl;
+}
+
+-- an access to the frame that holds the guest's page
+own_fine : (asid : ℕ) (archive : Archive) (memory : Memory) (old : Contents) (op : Op) (gpn frame index : ℕ) → Before asid archive memory old
+    → IsHeldAs (old.pages frame).facts asid gpn → index < 512
+    → let word = word_of (old.pages frame) index in
+    Fine asid archive memory old (record old { pages = pages_after op frame index word old.pages }) (use_of_word (outcome_of op word) op gpn index)
+unfolding use_of_word used
+own_fine asid archive memory old Load gpn frame index before h below = record {
+  legal = core_may_read old.pages archive asid memory gpn frame index before.core h;
+  core = core_reads old.pages archive asid memory gpn frame index (word_of (old.pages frame) index) before.core h refl;
+  whole = before.whole;
+  asids = λ h. refl;
+}
+own_fine asid archive memory old (Store value) gpn frame index before h below =
+    let within = subst (λ (n : ℕ). index < n) (sym (before.whole frame)) below in
+    record {
+      legal = before.core.held gpn (InFrame frame) h;
+      core = core_writes old.pages archive asid memory gpn frame index value before.core h within;
+      whole = pages_whole (Store value) frame index (word_of (old.pages frame) index) old.pages before.whole;
+      asids = λ h. refl;
+    }
+own_fine asid archive memory old (Swap value) gpn frame index before h below =
+    let within = subst (λ (n : ℕ). index < n) (sym (before.whole frame)) below in
+    record {
+      legal = core_may_read old.pages archive asid memory gpn frame index before.core h;
+      core = core_writes old.pages archive asid memory gpn frame index value before.core h within;
+      whole = pages_whole (Swap value) frame index (word_of (old.pages frame) index) old.pages before.whole;
+      asids = λ h. refl;
+    }
+own_fine asid archive memory old (Compare expected next) gpn frame index before h below =
+    let within = subst (λ (n : ℕ). index < n) (sym (before.whole frame)) below in
+    record {
+      legal = (core_may_read old.pages archive asid memory gpn frame index before.core h, refl);
+      core = core_writes old.pages archive asid memory gpn frame index _ before.core h within;
+      whole = pages_whole (Compare expected next) frame index (word_of (old.pages frame) index) old.pages before.whole;
+      asids = λ h. refl;
+    }
+own_fine asid archive memory old (Xor value) gpn frame index before h below =
+    let within = subst (λ (n : ℕ). index < n) (sym (before.whole frame)) below in
+    record {
+      legal = core_may_read old.pages archive asid memory gpn frame index before.core h;
+      core = core_writes old.pages archive asid memory gpn frame index _ before.core h within;
+      whole = pages_whole (Xor value) frame index (word_of (old.pages frame) index) old.pages before.whole;
+      asids = λ h. refl;
+    }
+
+-- a private access passes on a frame that holds its page alone
+pub pass_holds : (facts : RmpEntry) (place : Place) (op : Op) → private_verdict facts place op ≡ Pass → IsHeldAs facts place.asid place.gpn
+unfolding private_verdict
+pass_holds facts place op e = grind (arith, nat_tests)
+
+-- and where it faults, it does nothing
+record IsQuiet (op : Op) (gpn index : ℕ) (verdict : Verdict) : Type 0 where
+  quiet : (outcome : Outcome) → verdict ≡ Fault outcome → use_of_word outcome op gpn index ≡ Untouched
+
+fault_of : (a b : Outcome) → Fault a ≡ Fault b → a ≡ b
+fault_of a b e = cc
+
+refusal_quiet : (place : Place) (op : Op) (by_permissions : Bool) (gpn index : ℕ) → IsQuiet op gpn index (private_refusal place op by_permissions)
+unfolding use_of_word
+refusal_quiet place op by_permissions gpn index =
+    record { quiet = λ outcome e. subst (λ (o : Outcome). use_of_word o op gpn index ≡ Untouched) (fault_of _ outcome e) refl }
+
+unvalidated_quiet : (op : Op) (gpn index : ℕ) → IsQuiet op gpn index (Fault (outcomes.Vc 0x404))
+unfolding use_of_word
+unvalidated_quiet op gpn index =
+    record { quiet = λ outcome e. subst (λ (o : Outcome). use_of_word o op gpn index ≡ Untouched) (fault_of _ outcome e) refl }
+
+pass_quiet : (op : Op) (gpn index : ℕ) → IsQuiet op gpn index Pass
+pass_quiet op gpn index = record { quiet = λ outcome e. absurd cc }
+
+private_quiet : (facts : RmpEntry) (place : Place) (op : Op) (gpn index : ℕ) → IsQuiet op gpn index (private_verdict facts place op)
+unfolding private_verdict
+private_quiet facts place op gpn index =
+    let P = IsQuiet op gpn index in
+    let refused = λ (by_permissions : Bool). refusal_quiet place op by_permissions gpn index in
+    cond_both (not facts.assigned || not (eqb facts.asid place.asid)) _ _ P (λ _. refused false)
+    (λ _. cond_both (not (eqb facts.gpn place.gpn)) _ _ P (λ _. refused false)
+    (λ _. cond_both facts.immutable _ _ P (λ _. refused false)
+    (λ _. cond_both (is_large place.leaf && not (is_large facts.size)) _ _ P (λ _. refused false)
+    (λ _. cond_both (not facts.validated) _ _ P (λ _. unvalidated_quiet op gpn index)
+    (λ _. cond_both (lacks (slice_index facts.perms place.vmpl) op) _ _ P (λ _. refused true) (λ _. pass_quiet op gpn index))))))
+
+private_faults : (facts : RmpEntry) (place : Place) (op : Op) (outcome : Outcome) (gpn index : ℕ) → private_verdict facts place op ≡ Fault outcome → use_of_word outcome op gpn index ≡ Untouched
+private_faults facts place op outcome gpn index e = (private_quiet facts place op gpn index).quiet outcome e
+
+-- a host access passes on a frame that holds no page
+host_holds_none : (facts : RmpEntry) (op : Op) → host_verdict facts op ≡ Pass → facts.assigned ≡ false
+unfolding host_verdict
+host_holds_none facts Load e = grind (arith, nat_tests)
+host_holds_none facts (Store value) e = grind (arith, nat_tests)
+host_holds_none facts (Swap value) e = grind (arith, nat_tests)
+host_holds_none facts (Compare expected next) e = grind (arith, nat_tests)
+host_holds_none facts (Xor value) e = grind (arith, nat_tests)
+
+-- a private access, by what the RMP says
+hidden_quiet : (op : Op) (gpn index : ℕ) → use_of_word outcomes.Opaque op gpn index ≡ Untouched
+unfolding use_of_word
+hidden_quiet op gpn index = refl
+
+held_asid : (facts : RmpEntry) (a b gpn : ℕ) → a ≡ b → IsHeldAs facts a gpn → IsHeldAs facts b gpn
+held_asid facts a b gpn same h = subst (λ (x : ℕ). IsHeldAs facts x gpn) same h
+
+private_fine : (guest asid : ℕ) (archive : Archive) (memory : Memory) (old : Contents) (part : ActorPart) (owner vmpl npt : ℕ) (paging : Paging) (address : ℕ) (op : Op)
+    (gpn frame index : ℕ) (place : Place) (verdict : Verdict)
+    → Before asid archive memory old → Owns guest asid old.contexts owner → index < 512 → place.asid ≡ (old.contexts owner).asid → place.gpn ≡ gpn
+    → private_verdict (old.pages frame).facts place op ≡ verdict
+    → MoveFine guest asid archive memory old (Cpu owner vmpl npt paging) (Access address op) (access_move old part (deeds.Access gpn index frame true) verdict op frame index)
+unfolding access_move use_for use_of
+private_fine guest asid archive memory old part owner vmpl npt paging address op gpn frame index place Pass before owns below asid_is gpn_is is =
+    let facts = (old.pages frame).facts in
+    let word = word_of (old.pages frame) index in
+    let passed = pass_holds facts place op is in
+    let h : IsHeldAs facts (old.contexts owner).asid gpn = subst (λ (p : ℕ). IsHeldAs facts (old.contexts owner).asid p) gpn_is (held_asid facts place.asid (old.contexts owner).asid place.gpn asid_is passed) in
+    record {
+      fine = cond_both (eqb owner guest) _ _ (Fine asid archive memory old (record old { pages = pages_after op frame index word old.pages }))
+          (λ same. own_fine asid archive memory old op gpn frame index before (held_asid facts (old.contexts owner).asid asid gpn (owns.own (eqb-true owner guest same)) h) below)
+          (λ different. elsewhere_fine asid archive memory old op frame index word before (λ q hq. owns.other (eqb-false owner guest different) (sym h.asid_is ∙ hq.asid_is)));
+    }
+private_fine guest asid archive memory old part owner vmpl npt paging address op gpn frame index place Hidden before owns below asid_is gpn_is is =
+    quiet_fine guest asid archive memory old part (Cpu owner vmpl npt paging) (Access address op) (deeds.Access gpn index frame true) (Some outcomes.Opaque) before (hidden_quiet op gpn index)
+private_fine guest asid archive memory old part owner vmpl npt paging address op gpn frame index place (Fault outcome) before owns below asid_is gpn_is is =
+    quiet_fine guest asid archive memory old part (Cpu owner vmpl npt paging) (Access address op) (deeds.Access gpn index frame true) (Some outcome) before
+    (private_faults (old.pages frame).facts place op outcome gpn index is)
+
+-- a host access, by what the RMP says
+host_fine : (guest asid : ℕ) (archive : Archive) (memory : Memory) (old : Contents) (part : ActorPart) (item : Item) (op : Op) (frame index : ℕ) (verdict : Verdict)
+    → Before asid archive memory old → host_verdict (old.pages frame).facts op ≡ verdict
+    → MoveFine guest asid archive memory old Host item (access_move old part (deeds.Host frame index) verdict op frame index)
+unfolding access_move use_for
+host_fine guest asid archive memory old part item op frame index Pass before is = record {
+  fine = elsewhere_fine asid archive memory old op frame index (word_of (old.pages frame) index) before
+      (λ gpn h. true≢false (sym h.assigned ∙ host_holds_none (old.pages frame).facts op is));
+}
+host_fine guest asid archive memory old part item op frame index Hidden before is = record { fine = nothing_fine asid archive memory old before }
+host_fine guest asid archive memory old part item op frame index (Fault outcome) before is = record { fine = nothing_fine asid archive memory old before }
+
+-- a guest processor's access
+flat_fine : (guest asid : ℕ) (archive : Archive) (memory : Memory) (frames : ℕ) (old : Contents) (part : ActorPart) (owner vmpl npt : ℕ) (address : ℕ) (op : Op) (stands : NestedEnd)
+    → Before asid archive memory old → Owns guest asid old.contexts owner
+    → MoveFine guest asid archive memory old (Cpu owner vmpl npt Flat) (Access address op) (flat_move frames old part (record { guest = owner; vmpl = vmpl; npt = npt }) address op stands)
+unfolding flat_move nested_move use_of
+flat_fine guest asid archive memory frames old part owner vmpl npt address op (ends.Read frame index) before owns =
+    quiet_fine guest asid archive memory old part (Cpu owner vmpl npt Flat) (Access address op) _ _ before refl
+flat_fine guest asid archive memory frames old part owner vmpl npt address op (ends.Leaf frame size) before owns =
+    let cpu : Processor = record { guest = owner; vmpl = vmpl; npt = npt } in
+    private_fine guest asid archive memory old part owner vmpl npt Flat address op (flat_gpn address) frame (index_of address) (flat_place (old.contexts owner).asid cpu address frame size) _
+    before owns (omega arith) refl refl refl
+flat_fine guest asid archive memory frames old part owner vmpl npt address op (ends.Fault code) before owns =
+    unbuilt_fine guest asid archive memory old part (Cpu owner vmpl npt Flat) (Access address op) before
+
+flat_access_fine : (guest asid : ℕ) (archive : Archive) (memory : Memory) (frames : ℕ) (old : Contents) (part : ActorPart) (owner vmpl npt : ℕ) (address : ℕ) (op : Op) (made : List Deed)
+    → Before asid archive memory old → Owns guest asid old.contexts owner
+    → MoveFine guest asid archive memory old (Cpu owner vmpl npt Flat) (Access address op) (flat_access frames old part (record { guest = owner; vmpl = vmpl; npt = npt }) address op made)
+unfolding flat_access
+flat_access_fine guest asid archive memory frames old part owner vmpl npt address op [] before owns =
+    begin_fine guest asid archive memory old part (Cpu owner vmpl npt Flat) (Access address op) (old.contexts owner) address before
+flat_access_fine guest asid archive memory frames old part owner vmpl npt address op (deed ∷ others) before owns =
+    flat_fine guest asid archive memory frames old part owner vmpl npt address op _ before owns
+
+-- so each item's move
+pub item_fine : (guest asid : ℕ) (archive : Archive) (memory : Memory) (frames : ℕ) (view : View) (part : ActorPart) (role : Role) (item : Item)
+    → Before asid archive memory view.contents → RoleOwns guest asid view.contents.contexts role
+    → MoveFine guest asid archive memory view.contents role item (item_move frames view part role item)
+unfolding item_move host_access
+item_fine guest asid archive memory frames view part (Cpu owner vmpl npt Flat) (Access address op) before owns =
+    flat_access_fine guest asid archive memory frames view.contents part owner vmpl npt address op part.deeds before owns
+item_fine guest asid archive memory frames view part Host (Access address op) before owns =
+    host_fine guest asid archive memory view.contents part (Access address op) op (address / 4096) (index_of address) _ before refl
+item_fine guest asid archive memory frames view part role item before owns = unbuilt_fine guest asid archive memory view.contents part role item before

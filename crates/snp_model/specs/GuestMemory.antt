@@ -1,0 +1,139 @@
+-- A guest's private memory as the guest may rely on it: what its own events find there and leave there. No rule here but the opening knows a frame, an entry of the RMP or a page table. This project's own.
+use Rattle.std.specs.Prelude.{◌≡◌, ℕ, zero, suc, ◌+◌, ◌<◌, ◌≤◌, ◌==◌, Bool, true, ◌&&◌, ◌≢◌, bit_xor, if◌then◌else◌, List, [], ◌∷◌, length, map, slice_index_or, slice_set, Option, Some, None, unwrap_or}
+use Rattle.std.specs.FinMap.{FinMap, empty, get, insert}
+use Rattle.std.specs.Option.{option_map}
+use Rattle.std.specs.Ordering.{nat_cmp}
+use Rattle.snp_model.specs.declared.event.Deed.{Deed}
+use Rattle.snp_model.specs.declared.event.Deed.TheVariants as deeds
+use Rattle.snp_model.specs.declared.event.Outcome.{Outcome}
+use Rattle.snp_model.specs.declared.event.Outcome.TheVariants.{Loaded, Stored, Swapped, Compared}
+use Rattle.snp_model.specs.declared.item.Item.{Item}
+use Rattle.snp_model.specs.declared.item.Item.TheVariants as items
+use Rattle.snp_model.specs.declared.item.Op.{Op}
+use Rattle.snp_model.specs.declared.item.Op.TheVariants.{Load, Store, Swap, Compare, Xor}
+use Rattle.snp_model.specs.declared.scenario.PageSpec.{PageSpec}
+use Rattle.snp_model.specs.declared.scenario.Role.{Role}
+use Rattle.snp_model.specs.declared.scenario.Role.TheVariants.{Cpu}
+use Rattle.snp_model.specs.declared.scenario.Scenario.{Scenario}
+use Rattle.snp_model.specs.State.{State, part_of, zero_words}
+use Rattle.snp_model.specs.Step.{event_of, after, line_at}
+use Rattle.snp_model.specs.Opening.{frames_in, opening, words_from}
+
+-- a page of it: 512 places, each with a number, or unknown
+abbrev pub Places : Type 0
+Places = List (Option ℕ)
+
+-- a guest's memory: the pages that it holds, by guest page number
+abbrev pub Memory : Type 0
+Memory = FinMap nat_cmp Places
+
+-- a page is held
+abbrev pub IsHeld : Memory → ℕ → Type 0
+IsHeld memory gpn = get memory gpn ≢ None
+
+-- the word at a place, where its page is held and the word is known
+abbrev pub known : Memory → ℕ → ℕ → Option ℕ
+known memory gpn index = unwrap_or (option_map (λ places. slice_index_or places index None) (get memory gpn)) None
+
+-- memory where the word at a place of a held page is known to be this number
+unfoldable pub with_known : ℕ → ℕ → ℕ → Memory → Memory
+with_known gpn index value memory =
+    unwrap_or (option_map (λ places. insert memory gpn (slice_set places index (Some value))) (get memory gpn)) memory
+
+-- what an event does with a guest's memory
+pub data Use : Type 0 where
+  Untouched : Use
+  Reads : (gpn index found : ℕ) → Use
+  Writes : (gpn index value : ℕ) → Use
+  Exchanges : (gpn index found value : ℕ) → Use
+  Compares : (gpn index found : ℕ) (written : Bool) (expected next : ℕ) → Use
+
+-- what an access that passed does with a word, by its outcome and its operation
+unfoldable pub use_of_word : Outcome → Op → ℕ → ℕ → Use
+use_of_word (Loaded found) Load gpn index = Reads gpn index found
+use_of_word Stored (Store value) gpn index = Writes gpn index value
+use_of_word (Swapped found) (Swap value) gpn index = Exchanges gpn index found value
+use_of_word (Swapped found) (Xor value) gpn index = Exchanges gpn index found (bit_xor found value)
+use_of_word (Compared found written) (Compare expected next) gpn index = Compares gpn index found written expected next
+use_of_word outcome op gpn index = Untouched
+
+-- what an event of a guest's processor does, by its deed, its item and its outcome: a guest table is read where the RMP lets it, a private access reads and writes where it passed, and every other event does nothing
+unfoldable pub use_of : Deed → Item → Option Outcome → Use
+use_of (deeds.Table gpn index frame (Some value)) item outcome = Reads gpn index value
+use_of (deeds.Access gpn index frame true) (items.Access address op) (Some outcome) = use_of_word outcome op gpn index
+use_of deed item outcome = Untouched
+
+-- what an event does with the memory of one guest: only its own processors' events do anything
+unfoldable pub use_for : ℕ → Role → Deed → Item → Option Outcome → Use
+use_for guest (Cpu owner vmpl npt paging) deed item outcome = if owner == guest then use_of deed item outcome else Untouched
+use_for guest role deed item outcome = Untouched
+
+-- what the next event of an actor does with the memory of a guest
+unfoldable pub next_use : ℕ → State → ℕ → Use
+next_use guest m actor =
+    let part = part_of m actor in
+    let event = event_of m actor in
+    use_for guest part.role event.deed (line_at part.script part.item).item event.outcome
+
+-- a word may be read: its page is held, and the word is this one or unknown
+pub record MayRead (memory : Memory) (gpn index found : ℕ) : Type 0 where
+  pub held : IsHeld memory gpn
+  pub agrees : (word : ℕ) → known memory gpn index ≡ Some word → word ≡ found
+
+-- an event finds what it needs in the memory
+abbrev pub IsLegalUse : Memory → Use → Type 0
+IsLegalUse memory Untouched = Unit {0}
+IsLegalUse memory (Reads gpn index found) = MayRead memory gpn index found
+IsLegalUse memory (Writes gpn index value) = IsHeld memory gpn
+IsLegalUse memory (Exchanges gpn index found value) = MayRead memory gpn index found
+IsLegalUse memory (Compares gpn index found written expected next) = MayRead memory gpn index found × (written ≡ (found == expected))
+
+-- the memory after it: a word that was read is known from then on, as is one that was written
+unfoldable pub used : Use → Memory → Memory
+used Untouched memory = memory
+used (Reads gpn index found) memory = with_known gpn index found memory
+used (Writes gpn index value) memory = with_known gpn index value memory
+used (Exchanges gpn index found value) memory = with_known gpn index value memory
+used (Compares gpn index found written expected next) memory = with_known gpn index (if written then next else found) memory
+
+-- memory with `count` further pages, whose words are those of the frames from `frame` on
+unfoldable pub with_frames : (ℕ → List ℕ) → ℕ → ℕ → ℕ → Memory → Memory
+with_frames words frame gpn zero memory = memory
+with_frames words frame gpn (suc count) memory = insert (with_frames words (frame + 1) (gpn + 1) count memory) gpn (map Some (words frame))
+
+-- memory with the pages of a page line, where it is a valid one of the guest
+unfoldable pub with_line : ℕ → (ℕ → List ℕ) → PageSpec → Memory → Memory
+with_line guest words page memory =
+    if page.valid && (page.guest == guest) then with_frames words page.frame page.gpn (frames_in page.size) memory else memory
+
+-- so with several page lines
+unfoldable pub with_lines : ℕ → (ℕ → List ℕ) → List PageSpec → Memory → Memory
+with_lines guest words [] memory = memory
+with_lines guest words (page ∷ pages) memory = with_lines guest words pages (with_line guest words page memory)
+
+-- a guest's memory at the opening
+unfoldable pub opening_memory : Scenario → ℕ → Memory
+opening_memory scenario guest = with_lines guest (words_from (λ _. zero_words) scenario.words) scenario.pages empty
+
+-- a guest's memory after a schedule, from a state and the memory there
+unfoldable pub memory_from : ℕ → State → Memory → List ℕ → Memory
+memory_from guest m memory [] = memory
+memory_from guest m memory (actor ∷ actors) = memory_from guest (after m actor) (used (next_use guest m actor) memory) actors
+
+-- each event of a schedule finds what it needs in the memory that the events before it have left
+unfoldable pub IsLegalFrom : ℕ → State → Memory → List ℕ → Type 0
+IsLegalFrom guest m memory [] = Unit {0}
+IsLegalFrom guest m memory (actor ∷ actors) =
+    IsLegalUse memory (next_use guest m actor) × IsLegalFrom guest (after m actor) (used (next_use guest m actor) memory) actors
+
+-- a guest's memory after a schedule of a scenario
+abbrev pub memory_after : Scenario → List ℕ → ℕ → Memory
+memory_after scenario schedule guest = memory_from guest (opening scenario) (opening_memory scenario guest) schedule
+
+-- a guest's private accesses are one legal history of a memory of its own
+abbrev pub IsLegal : Scenario → List ℕ → ℕ → Type 0
+IsLegal scenario schedule guest = IsLegalFrom guest (opening scenario) (opening_memory scenario guest) schedule
+
+-- so for each declared guest
+abbrev pub AreLegal : Scenario → List ℕ → Type 0
+AreLegal scenario schedule = (guest : ℕ) → 0 < guest → guest ≤ length scenario.guests → IsLegal scenario schedule guest

@@ -1,0 +1,39 @@
+-- How many events a state's actors can still make: at most 32 for each attempt (this project's own).
+use Rattle.std.specs.Prelude.{ℕ, ◌+◌, ◌-◌, ◌*◌, ◌<◌, ◌≤◌, List, [], ◌∷◌, All, length, drop}
+use Rattle.snp_model.specs.declared.event.Deed.{Deed}
+use Rattle.snp_model.specs.declared.item.Line.{Line}
+use Rattle.snp_model.specs.Attempts.{script_attempts}
+use Rattle.snp_model.specs.State.{ActorPart, State}
+use Rattle.snp_model.specs.Step.{line_at, nested_words}
+
+-- of the lines from the one under way on, whose attempt has made some events
+unfoldable pub lines_room : List Line → ℕ → ℕ → ℕ
+lines_room [] attempt made = 0
+lines_room (line ∷ lines) attempt made = (32 * ((1 + line.retries) - attempt) - made) + 32 * script_attempts lines
+
+-- of an actor
+unfoldable pub part_room : ActorPart → ℕ
+part_room part = lines_room (drop part.item part.script) part.attempt (length part.deeds)
+
+-- of several actors
+unfoldable pub parts_room : List ActorPart → ℕ
+parts_room [] = 0
+parts_room (part ∷ parts) = part_room part + parts_room parts
+
+-- of all actors of a state
+unfoldable pub room_of : State → ℕ
+room_of m = parts_room m.actors
+
+-- the deeds of an open attempt: it begins, and reads the words of a nested table of each level once
+pub record IsShort (deeds : List Deed) : Type 0 where
+  pub walked : length deeds ≤ 1 + length (nested_words deeds)
+  pub few : length (nested_words deeds) ≤ 4
+
+-- an actor's open attempt is short, and it is one of those that its line has
+pub record IsBounded (part : ActorPart) : Type 0 where
+  pub short : IsShort part.deeds
+  pub within : part.item < length part.script → part.attempt ≤ (line_at part.script part.item).retries
+
+-- so of each actor
+abbrev pub AreBounded : State → Type 0
+AreBounded m = All IsBounded m.actors

@@ -1,0 +1,128 @@
+-- The bounds that every scenario has which a text can say, as facts on its lists. They are this project's own.
+use Rattle.std.specs.Prelude.{◌≡◌, ℕ, ◌*◌, ◌%◌, ◌^◌, ◌<◌, ◌≤◌, ◌≢◌, true, List, [], ◌∷◌, length}
+use Rattle.std.specs.List.{AllByRecursion}
+use Rattle.snp_model.specs.declared.entry.PageSize.TheVariants.{Small}
+use Rattle.snp_model.specs.declared.scenario.Scenario.{Scenario}
+use Rattle.snp_model.specs.declared.scenario.GuestSpec.{GuestSpec}
+use Rattle.snp_model.specs.declared.scenario.PageSpec.{PageSpec}
+use Rattle.snp_model.specs.declared.scenario.WordSpec.{WordSpec}
+use Rattle.snp_model.specs.declared.scenario.Turn.{Turn}
+use Rattle.snp_model.specs.declared.scenario.Actor.{Actor}
+use Rattle.snp_model.specs.declared.scenario.Role.{Role}
+use Rattle.snp_model.specs.declared.scenario.Role.TheVariants.{Cpu, Host, Firmware}
+use Rattle.snp_model.specs.declared.scenario.Paging.{Paging}
+use Rattle.snp_model.specs.declared.scenario.Paging.TheVariants.{Flat}
+use Rattle.snp_model.specs.declared.item.Line.{Line}
+use Rattle.snp_model.specs.declared.item.Item.{Item}
+use Rattle.snp_model.specs.declared.item.Item.TheVariants.{Access}
+use Rattle.snp_model.specs.declared.item.Op.{Op}
+use Rattle.snp_model.specs.declared.item.Op.TheVariants.{Load, Store}
+use Rattle.snp_model.specs.ScenarioLines.{frames_of}
+use Rattle.snp_model.specs.Attempts.{attempts_of}
+use Rattle.snp_model.specs.Reading.{order_of}
+
+-- a relation between each element and each later one
+abbrev pub Pairwise : {X : Type 0} → (X → X → Type 0) → List X → Type 0
+Pairwise R [] = Unit {0}
+Pairwise R (x ∷ xs) = AllByRecursion (R x) xs × Pairwise R xs
+
+-- a guest runs from the opening on, with an ASID of its own
+pub record IsGuest (guest : GuestSpec) : Type 0 where
+  pub opened : guest.opened ≡ true
+  pub asid_some : 0 < guest.asid
+  pub asid_below : guest.asid < 1024
+
+abbrev pub AsidsDiffer : GuestSpec → GuestSpec → Type 0
+AsidsDiffer guest other = guest.asid ≢ other.asid
+
+-- a page in a memory of so many frames, of one of so many guests
+pub record IsPage (frames guests : ℕ) (page : PageSpec) : Type 0 where
+  pub frame : page.frame < frames
+  pub guest_some : 0 < page.guest
+  pub guest_most : page.guest ≤ guests
+  pub gpn : page.gpn < 2 ^ 36
+  pub size : page.size ≡ Small
+  pub perms_three : length page.perms ≡ 3
+  pub perms : AllByRecursion (λ p. p < 16) page.perms
+
+abbrev pub FramesDiffer : PageSpec → PageSpec → Type 0
+FramesDiffer page other = page.frame ≢ other.frame
+
+abbrev pub GpnsDiffer : PageSpec → PageSpec → Type 0
+GpnsDiffer page other = page.guest ≡ other.guest → page.gpn ≢ other.gpn
+
+-- a word of a memory of so many frames
+pub record IsWord (frames : ℕ) (word : WordSpec) : Type 0 where
+  pub frame : word.frame < frames
+  pub index : word.index < 512
+
+-- a guest processor, of one of so many guests
+pub record IsCpu (frames guests guest vmpl npt : ℕ) (paging : Paging) : Type 0 where
+  pub guest_some : 0 < guest
+  pub guest_most : guest ≤ guests
+  pub vmpl_below : vmpl < 4
+  pub npt_below : npt < frames
+  pub paging_flat : paging ≡ Flat
+
+-- a role
+abbrev pub IsRole : ℕ → ℕ → Role → Type 0
+IsRole frames guests (Cpu guest vmpl npt paging) = IsCpu frames guests guest vmpl npt paging
+IsRole frames guests Host = Unit {0}
+IsRole frames guests Firmware = ⊥
+
+-- an item of a guest processor, with any address
+abbrev pub IsCpuOp : Op → Type 0
+IsCpuOp Load = Unit {0}
+IsCpuOp (Store value) = Unit {0}
+IsCpuOp op = ⊥
+
+abbrev pub IsCpuItem : Item → Type 0
+IsCpuItem (Access address op) = (address % 8 ≡ 0) × IsCpuOp op
+IsCpuItem item = ⊥
+
+-- an item of a hypervisor processor, with an address in memory
+abbrev pub IsHostOp : Op → Type 0
+IsHostOp (Store value) = Unit {0}
+IsHostOp op = ⊥
+
+abbrev pub IsHostItem : ℕ → Item → Type 0
+IsHostItem frames (Access address op) = (address < 4096 * frames) × (address % 8 ≡ 0) × IsHostOp op
+IsHostItem frames item = ⊥
+
+-- an item that an actor with this role may have
+abbrev pub IsItemOf : ℕ → Role → Item → Type 0
+IsItemOf frames (Cpu guest vmpl npt paging) item = IsCpuItem item
+IsItemOf frames Host item = IsHostItem frames item
+IsItemOf frames Firmware item = ⊥
+
+pub record IsLineOf (frames : ℕ) (role : Role) (line : Line) : Type 0 where
+  pub item : IsItemOf frames role line.item
+  pub retries : line.retries < 256
+
+-- an actor
+pub record IsActor (frames guests : ℕ) (actor : Actor) : Type 0 where
+  pub role : IsRole frames guests actor.role
+  pub script : AllByRecursion (IsLineOf frames actor.role) actor.script
+
+-- a turn
+pub record IsTurn (turn : Turn) : Type 0 where
+  pub actor : turn.actor < 2 ^ 32
+  pub count_some : 0 < turn.count
+  pub count_most : turn.count ≤ 262144
+
+-- a scenario
+pub record IsSound (c : Scenario) : Type 0 where
+  pub regions_some : 0 < c.regions
+  pub regions_most : c.regions ≤ 16
+  pub guests_most : length c.guests ≤ 8
+  pub guests : AllByRecursion IsGuest c.guests
+  pub asids_differ : Pairwise AsidsDiffer c.guests
+  pub pages : AllByRecursion (IsPage (frames_of c) (length c.guests)) c.pages
+  pub frames_differ : Pairwise FramesDiffer c.pages
+  pub gpns_differ : Pairwise GpnsDiffer c.pages
+  pub words : AllByRecursion (IsWord (frames_of c)) c.words
+  pub actors_most : length c.actors ≤ 32
+  pub actors : AllByRecursion (IsActor (frames_of c) (length c.guests)) c.actors
+  pub attempts_most : attempts_of c ≤ 8192
+  pub order : AllByRecursion IsTurn c.order
+  pub order_most : length (order_of c) ≤ 262144

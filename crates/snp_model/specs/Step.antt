@@ -1,0 +1,222 @@
+-- One event of one actor: by cases on what its item still needs. The division into events is this project's own.
+use Rattle.std.specs.Prelude.{◌≡◌, ℕ, ◌+◌, ◌-◌, ◌/◌, ◌%◌, nat_le, nat_lt, Bool, true, false, not, ◌||◌, if◌then◌else◌, List, [], ◌∷◌, ◌++◌, slice_index_or, slice_set, Option, Some, None}
+use Rattle.snp_model.specs.declared.access.Place.{Place}
+use Rattle.snp_model.specs.declared.access.Verdict.{Verdict}
+use Rattle.snp_model.specs.declared.access.Verdict.TheVariants.{Pass, Hidden, Fault}
+use Rattle.snp_model.specs.declared.event.Deed.{Deed}
+use Rattle.snp_model.specs.declared.event.Deed.TheVariants as deeds
+use Rattle.snp_model.specs.declared.event.Event.{Event}
+use Rattle.snp_model.specs.declared.event.Outcome.{Outcome}
+use Rattle.snp_model.specs.declared.event.Outcome.TheVariants as outcomes
+use Rattle.snp_model.specs.declared.firmware.GuestState.{GuestState}
+use Rattle.snp_model.specs.declared.firmware.GuestState.TheVariants.{Running}
+use Rattle.snp_model.specs.declared.item.Item.{Item}
+use Rattle.snp_model.specs.declared.item.Item.TheVariants.{Access, Psmash}
+use Rattle.snp_model.specs.declared.item.Line.{Line}
+use Rattle.snp_model.specs.declared.item.Op.{Op}
+use Rattle.snp_model.specs.declared.scenario.Paging.TheVariants.{Flat}
+use Rattle.snp_model.specs.declared.scenario.Role.{Role}
+use Rattle.snp_model.specs.declared.scenario.Role.TheVariants.{Cpu, Host}
+use Rattle.snp_model.specs.declared.walk.NestedPath.{NestedPath}
+use Rattle.snp_model.specs.declared.walk.NestedEnd.{NestedEnd}
+use Rattle.snp_model.specs.declared.walk.NestedEnd.TheVariants as ends
+use Rattle.snp_model.specs.declared.entry.PageSize.{PageSize}
+use Rattle.snp_model.specs.NestedWalk.{nested_end}
+use Rattle.snp_model.specs.Operations.{writes, outcome_of, word_after}
+use Rattle.snp_model.specs.Verdicts.{private_verdict, host_verdict}
+use Rattle.snp_model.specs.State.{Page, Pages, Context, Contents, PageLock, Computed, ActorPart, State, View, part_of, IsUnfinished, with_word, word_of}
+use Rattle.snp_model.specs.Locks.{view_of}
+
+-- what one event does: its deed and outcome, memory and contexts after it, and what the open attempt then has
+pub record Move : Type 0 where
+  pub deed : Deed
+  pub outcome : Option Outcome
+  pub contents : Contents
+  pub locks : List PageLock
+  pub context_lock : Option ℕ
+  pub computed : Option Computed
+
+-- an event that changes memory alone
+abbrev pub memory_move : Contents → ActorPart → Deed → Option Outcome → Pages → Move
+memory_move contents part deed outcome pages =
+    record { deed = deed; outcome = outcome; contents = record contents { pages = pages }; locks = part.locks; context_lock = part.context_lock; computed = part.computed }
+
+-- an event that changes nothing
+abbrev pub quiet_move : Contents → ActorPart → Deed → Option Outcome → Move
+quiet_move contents part deed outcome =
+    record { deed = deed; outcome = outcome; contents = contents; locks = part.locks; context_lock = part.context_lock; computed = part.computed }
+
+-- an item that no scenario has yet
+abbrev pub unbuilt_move : Contents → ActorPart → Move
+unbuilt_move contents part = quiet_move contents part deeds.Control (Some outcomes.Next)
+
+-- memory after an operation on a word
+abbrev pub pages_after : Op → ℕ → ℕ → ℕ → Pages → Pages
+pages_after op frame index word pages = if writes op then with_word frame index (word_after op word) pages else pages
+
+-- the one event of a check with its access: on a pass the word is read and written, otherwise nothing changes
+unfoldable pub access_move : Contents → ActorPart → Deed → Verdict → Op → ℕ → ℕ → Move
+access_move contents part deed Pass op frame index =
+    let word = word_of (contents.pages frame) index in
+    memory_move contents part deed (Some (outcome_of op word)) (pages_after op frame index word contents.pages)
+access_move contents part deed Hidden op frame index = quiet_move contents part deed (Some outcomes.Opaque)
+access_move contents part deed (Fault outcome) op frame index = quiet_move contents part deed (Some outcome)
+
+-- the word that the nested walker sees: 0 where the frame is assigned
+abbrev pub table_word : Page → ℕ → ℕ
+table_word page index = if page.facts.assigned then 0 else word_of page index
+
+-- the words of nested tables that the open attempt has read
+unfoldable pub nested_words : List Deed → List ℕ
+nested_words [] = []
+nested_words (deeds.Nested frame index value ∷ others) = value ∷ nested_words others
+nested_words (deed ∷ others) = nested_words others
+
+-- how an event of a walk ends, by where the walk then stands
+abbrev pub walk_outcome : NestedEnd → Option Outcome
+walk_outcome (ends.Fault code) = Some (outcomes.Npf code)
+walk_outcome stands = None
+
+-- a guest processor: its guest, VMPL and first nested table
+pub record Processor : Type 0 where
+  pub guest : ℕ
+  pub vmpl : ℕ
+  pub npt : ℕ
+
+-- whether bits 63:47 of an address are all equal (APM volume 2, 5.3.1)
+abbrev pub is_canonical : ℕ → Bool
+is_canonical address = nat_lt address 0x8000_0000_0000 || nat_le 0xffff_8000_0000_0000 address
+
+-- whether a guest runs
+abbrev pub is_running : GuestState → Bool
+is_running Running = true
+is_running state = false
+
+-- the beginning of a guest processor's access
+unfoldable pub begin_move : Contents → ActorPart → Context → ℕ → Move
+begin_move contents part context address =
+    if not (is_running context.state) then quiet_move contents part deeds.Begin (Some outcomes.Offline)
+    else if not (is_canonical address) then quiet_move contents part deeds.Begin (Some outcomes.Gp)
+    else quiet_move contents part deeds.Begin None
+
+-- the guest page number of an address without guest tables: bits 47:12
+abbrev pub flat_gpn : ℕ → ℕ
+flat_gpn address = address / 4096 % 0x10_0000_0000
+
+-- the word of a page that an address names: bits 11:3
+abbrev pub index_of : ℕ → ℕ
+index_of address = address / 8 % 512
+
+-- what the nested walk of an access without guest tables begins from
+abbrev pub flat_path : ℕ → Processor → ℕ → Op → NestedPath
+flat_path frames cpu address op =
+    record { root = cpu.npt; frames = frames; gpn = flat_gpn address; write = writes op; private = true; table = false }
+
+-- where such an access goes, once its walk has come to a leaf
+abbrev pub flat_place : ℕ → Processor → ℕ → ℕ → PageSize → Place
+flat_place asid cpu address frame size =
+    record { asid = asid; gpn = flat_gpn address; slot = frame % 512; index = index_of address; leaf = size; vmpl = cpu.vmpl; private = true; table = false }
+
+-- one word of a nested table is read, and the walk goes on, comes to a leaf, or faults
+unfoldable pub nested_move : Contents → ActorPart → NestedPath → ℕ → ℕ → Move
+nested_move contents part path frame index =
+    let value = table_word (contents.pages frame) index in
+    quiet_move contents part (deeds.Nested frame index value) (walk_outcome (nested_end path (nested_words part.deeds ++ value ∷ [])))
+
+-- after the beginning of an access without guest tables: the words of its nested walk, then the access
+unfoldable pub flat_move : ℕ → Contents → ActorPart → Processor → ℕ → Op → NestedEnd → Move
+flat_move frames contents part cpu address op (ends.Read frame index) = nested_move contents part (flat_path frames cpu address op) frame index
+flat_move frames contents part cpu address op (ends.Leaf frame size) =
+    let place = flat_place (contents.contexts cpu.guest).asid cpu address frame size in
+    access_move contents part (deeds.Access (flat_gpn address) (index_of address) frame true) (private_verdict (contents.pages frame).facts place op) op frame (index_of address)
+flat_move frames contents part cpu address op (ends.Fault code) = unbuilt_move contents part
+
+-- an access of a guest processor without guest tables
+unfoldable pub flat_access : ℕ → Contents → ActorPart → Processor → ℕ → Op → List Deed → Move
+flat_access frames contents part cpu address op [] = begin_move contents part (contents.contexts cpu.guest) address
+flat_access frames contents part cpu address op (deed ∷ others) =
+    flat_move frames contents part cpu address op (nested_end (flat_path frames cpu address op) (nested_words (deed ∷ others)))
+
+-- an access of a hypervisor processor, at a system physical address
+unfoldable pub host_access : Contents → ActorPart → ℕ → Op → Move
+host_access contents part address op =
+    let frame = address / 4096 in
+    access_move contents part (deeds.Host frame (index_of address)) (host_verdict (contents.pages frame).facts op) op frame (index_of address)
+
+-- the next event of an item, by the role of its actor
+unfoldable pub item_move : ℕ → View → ActorPart → Role → Item → Move
+item_move frames view part (Cpu guest vmpl npt Flat) (Access address op) =
+    flat_access frames view.contents part (record { guest = guest; vmpl = vmpl; npt = npt }) address op part.deeds
+item_move frames view part Host (Access address op) = host_access view.contents part address op
+item_move frames view part role item = unbuilt_move view.contents part
+
+-- whether an item is attempted again after an outcome: something was in use, and retries are left
+abbrev pub tries_again : Line → ℕ → Outcome → Bool
+tries_again line attempt (outcomes.StatusInUse holder) = nat_lt attempt line.retries
+tries_again line attempt (outcomes.FirmwareInUse holder) = nat_lt attempt line.retries
+tries_again line attempt outcome = false
+
+-- how many items are passed over after an outcome
+abbrev pub passed_over : Outcome → ℕ
+passed_over (outcomes.Skipped count) = count
+passed_over outcome = 0
+
+-- an actor's place: its item and the attempt of it
+pub record Position : Type 0 where
+  pub item : ℕ
+  pub attempt : ℕ
+
+-- the place after an attempt of a line at a place has ended
+unfoldable pub position_after : Line → Position → Outcome → Position
+position_after line at outcome =
+    if tries_again line at.attempt outcome then record { item = at.item; attempt = at.attempt + 1 }
+    else record { item = at.item + 1 + passed_over outcome; attempt = 0 }
+
+-- the last outcome that isn't of a skip
+abbrev pub last_after : Option Outcome → Outcome → Option Outcome
+last_after last outcomes.Next = last
+last_after last (outcomes.Skipped count) = last
+last_after last outcome = Some outcome
+
+-- the line at a place; a place past the end has none, and this one stands for it
+abbrev pub line_at : List Line → ℕ → Line
+line_at script item = slice_index_or script item (record { item = Psmash 0; retries = 0 })
+
+-- the actor's part after a move: an outcome closes the attempt, and so releases its locks
+unfoldable pub part_after : ActorPart → Move → Option Outcome → ActorPart
+part_after part move None =
+    record part { deeds = part.deeds ++ move.deed ∷ []; locks = move.locks; context_lock = move.context_lock; computed = move.computed }
+part_after part move (Some outcome) =
+    let next = position_after (line_at part.script part.item) (record { item = part.item; attempt = part.attempt }) outcome in
+    record part { item = next.item; attempt = next.attempt; deeds = []; locks = []; context_lock = None; computed = None; last = last_after part.last outcome }
+
+-- what a step leaves: its event, the actor's part, memory and contexts
+pub record Stepped : Type 0 where
+  pub event : Event
+  pub part : ActorPart
+  pub contents : Contents
+
+-- what a move of an actor leaves
+abbrev pub stepped : ActorPart → Move → Stepped
+stepped part move =
+    record { event = record { item = part.item; attempt = part.attempt; deed = move.deed; outcome = move.outcome }; part = part_after part move move.outcome; contents = move.contents }
+
+-- the step of an actor, from its own part and what it may look at
+abbrev pub step_of : ℕ → ActorPart → View → Stepped
+step_of frames part view = stepped part (item_move frames view part part.role (line_at part.script part.item).item)
+
+-- the event that an actor makes in a state
+unfoldable pub event_of : State → ℕ → Event
+event_of m actor = (step_of m.frames (part_of m actor) (view_of m)).event
+
+-- the state after it
+unfoldable pub after : State → ℕ → State
+after m actor =
+    let step = step_of m.frames (part_of m actor) (view_of m) in
+    record m { contents = step.contents; actors = slice_set m.actors (actor - 1) step.part }
+
+-- an unfinished actor's step leads from a state to another, with this event: there is exactly one such state and event
+pub record Step (m : State) (actor : ℕ) (new : State) (event : Event) : Type 0 where
+  pub unfinished : IsUnfinished m actor
+  pub becomes : new ≡ after m actor
+  pub makes : event ≡ event_of m actor

@@ -1,0 +1,11 @@
+//! The calls of the program, and the texts that it reads and writes.
+#![tactic(auto)]
+
+pub mod input;
+pub mod outside_port;
+pub mod report_text;
+pub mod run_journal;
+pub mod schedule;
+
+#[cfg(test)]
+mod tests;

@@ -1,0 +1,277 @@
+//! Texts that no clause spells out, and failures outside in mid-stream.
+use super::*;
+use snp_model::{Deed, Event, GuestLine, GuestState, Outcome, PageSize};
+use std::process::Abort;
+use std::test::Fail;
+
+// Event 7 of actor 2, its item 3 and attempt 1, has this line.
+fn check_line(rt: &impl Abort, deed: Deed, outcome: Option<Outcome>, text: &str) {
+    let event = Event {
+        item: 3,
+        attempt: 1,
+        deed,
+        outcome,
+    };
+    let mut out = [0; 256];
+    let end = write_line(7, 2, &event, &mut out);
+    assert!(rt; &out[..end] == text.as_bytes(), "{text}");
+}
+
+#[test]
+fn lines(rt: HostRuntime) {
+    let tag = [0, 1, 0x10, 0xff, 0xab, 0, 0, 0, 0, 0, 0, 0, 0, 0, 0, 0x9e];
+    check_line(&rt, Deed::Begin, None, "7 2 3.1 begin");
+    let nested = Deed::Nested {
+        frame: 16,
+        index: 511,
+        value: 0xffff_ffff_ffff_ffff,
+    };
+    check_line(&rt, nested, None, "7 2 3.1 npt 16:511 0xffffffffffffffff");
+    let table = Deed::Table {
+        gpn: 0xf_ffff_ffff,
+        index: 0,
+        frame: 8191,
+        value: Some(0),
+    };
+    check_line(&rt, table, None, "7 2 3.1 gpt 0xfffffffff:0 8191 0x0");
+    let refused = Deed::Table {
+        gpn: 0,
+        index: 9,
+        frame: 0,
+        value: None,
+    };
+    let fault = Some(Outcome::Npf(0x2_8000_0007));
+    check_line(&rt, refused, fault, "7 2 3.1 gpt 0x0:9 0 - npf 0x280000007");
+    let private = Deed::Access {
+        gpn: 10,
+        index: 1,
+        frame: 66,
+        private: true,
+    };
+    let found = Some(Outcome::Compared {
+        found: 16,
+        written: true,
+    });
+    check_line(&rt, private, found, "7 2 3.1 data 0xa:1 66 p cas 0x10 yes");
+    let shared = Deed::Access {
+        gpn: 11,
+        index: 2,
+        frame: 67,
+        private: false,
+    };
+    let other = Some(Outcome::Compared {
+        found: 15,
+        written: false,
+    });
+    check_line(&rt, shared, other, "7 2 3.1 data 0xb:2 67 s cas 0xf no");
+    let host = Deed::Host {
+        frame: 300,
+        index: 17,
+    };
+    check_line(
+        &rt,
+        host,
+        Some(Outcome::Loaded(9)),
+        "7 2 3.1 host 300:17 load 0x9",
+    );
+    check_line(
+        &rt,
+        host,
+        Some(Outcome::Opaque),
+        "7 2 3.1 host 300:17 opaque",
+    );
+    check_line(
+        &rt,
+        host,
+        Some(Outcome::Stored),
+        "7 2 3.1 host 300:17 store",
+    );
+    check_line(
+        &rt,
+        host,
+        Some(Outcome::Swapped(31)),
+        "7 2 3.1 host 300:17 swap 0x1f",
+    );
+    let lock = Deed::Lock {
+        frame: 18_446_744_073_709_551_615,
+    };
+    check_line(&rt, lock, None, "7 2 3.1 lock 18446744073709551615");
+    let context = Deed::LockContext { guest: 8 };
+    check_line(&rt, context, None, "7 2 3.1 lockg 8");
+    check_line(&rt, Deed::Compute, None, "7 2 3.1 compute");
+    let large = Deed::Commit {
+        frame: 512,
+        gpn: 1024,
+        size: PageSize::Large,
+    };
+    check_line(
+        &rt,
+        large,
+        Some(Outcome::Status(0)),
+        "7 2 3.1 commit 512 0x400 2m rc 0",
+    );
+    let small = Deed::Commit {
+        frame: 1,
+        gpn: 2,
+        size: PageSize::Small,
+    };
+    check_line(
+        &rt,
+        small,
+        Some(Outcome::Carry(true)),
+        "7 2 3.1 commit 1 0x2 4k rc 0 cf 1",
+    );
+    check_line(
+        &rt,
+        small,
+        Some(Outcome::Carry(false)),
+        "7 2 3.1 commit 1 0x2 4k rc 0 cf 0",
+    );
+    let commit = Deed::CommitContext { guest: 1 };
+    check_line(
+        &rt,
+        commit,
+        Some(Outcome::Firmware(0x1d)),
+        "7 2 3.1 commitg 1 fw 0x1d",
+    );
+    check_line(&rt, Deed::Control, Some(Outcome::Next), "7 2 3.1 skip next");
+    check_line(
+        &rt,
+        Deed::Control,
+        Some(Outcome::Skipped(8192)),
+        "7 2 3.1 skip skipped 8192",
+    );
+    check_line(&rt, Deed::Begin, Some(Outcome::Gp), "7 2 3.1 begin gp");
+    check_line(
+        &rt,
+        Deed::Begin,
+        Some(Outcome::Offline),
+        "7 2 3.1 begin offline",
+    );
+    check_line(
+        &rt,
+        Deed::Begin,
+        Some(Outcome::Pf(3)),
+        "7 2 3.1 begin pf 0x3",
+    );
+    check_line(
+        &rt,
+        Deed::Begin,
+        Some(Outcome::Vc(0x404)),
+        "7 2 3.1 begin vc 0x404",
+    );
+    let held = Some(Outcome::StatusInUse { holder: 4 });
+    check_line(&rt, context, held, "7 2 3.1 lockg 8 rc 3 by 4");
+    let held = Some(Outcome::FirmwareInUse { holder: 5 });
+    check_line(&rt, context, held, "7 2 3.1 lockg 8 fw 0x100 by 5");
+    let bad = Some(Outcome::BadTag {
+        found: tag,
+        kept: [0x5a; 16],
+    });
+    check_line(
+        &rt,
+        Deed::Compute,
+        bad,
+        "7 2 3.1 compute fw 0xb found 000110ffab000000000000000000009e kept 5a5a5a5a5a5a5a5a5a5a5a5a5a5a5a5a",
+    );
+}
+
+// Writes the report of 18 events in 17 runs, and of two guests.
+fn small_report(rt: &HostRuntime, sink: &mut MemorySink) -> Result<bool, Fail> {
+    let alloc = rt.alloc();
+    let mut journal = Journal::with_room(alloc, 18)?;
+    let event = Event {
+        item: 0,
+        attempt: 0,
+        deed: Deed::Control,
+        outcome: Some(Outcome::Next),
+    };
+    for k in 0..17 {
+        journal.push(1 + k % 3, event);
+    }
+    journal.push(2, event);
+    let guests = vec![in alloc;
+        GuestLine {
+            guest: 1,
+            state: GuestState::Running,
+            pages: 0,
+            digest: [7; 48]
+        },
+        GuestLine {
+            guest: 2,
+            state: GuestState::Launching,
+            pages: 1,
+            digest: [0xc5; 48]
+        },
+    ]?;
+    Ok(write_report(&journal, &guests, sink).is_ok())
+}
+
+const REPORT: &str = "snp-report 1
+0 1 0.0 skip next
+1 2 0.0 skip next
+2 3 0.0 skip next
+3 1 0.0 skip next
+4 2 0.0 skip next
+5 3 0.0 skip next
+6 1 0.0 skip next
+7 2 0.0 skip next
+8 3 0.0 skip next
+9 1 0.0 skip next
+10 2 0.0 skip next
+11 3 0.0 skip next
+12 1 0.0 skip next
+13 2 0.0 skip next
+14 3 0.0 skip next
+15 1 0.0 skip next
+16 2 0.0 skip next
+17 2 0.0 skip next
+order 1*1 2*1 3*1 1*1 2*1 3*1 1*1 2*1 3*1 1*1 2*1 3*1 1*1 2*1 3*1 1*1
+order 2*2
+guest 1 running -
+guest 2 launching c5c5c5c5c5c5c5c5c5c5c5c5c5c5c5c5c5c5c5c5c5c5c5c5c5c5c5c5c5c5c5c5c5c5c5c5c5c5c5c5c5c5c5c5c5c5c5c5
+end 18
+";
+
+// A report of 24 lines, of which the write of each fails in turn, and one where there is no room.
+#[test]
+fn reports(rt: HostRuntime) -> Result<(), Fail> {
+    let alloc = rt.alloc();
+    for k in 0..24 {
+        let failing = vec![in alloc; k]?;
+        let mut sink = MemorySink::with_room(alloc, 2048, failing)?;
+        assert!(rt; !small_report(&rt, &mut sink)?);
+        let lines = sink.bytes().iter().filter(|byte| **byte == b'\n').count();
+        assert!(rt; lines == k as usize);
+        assert!(rt; REPORT.as_bytes().starts_with(sink.bytes()));
+    }
+    let mut sink = MemorySink::with_room(alloc, 2048, vec![in alloc; 24]?)?;
+    assert!(rt; small_report(&rt, &mut sink)?);
+    assert!(rt; sink.bytes() == REPORT.as_bytes());
+    let mut full = MemorySink::with_room(alloc, 0, Vec::new(alloc))?;
+    assert!(rt; !small_report(&rt, &mut full)?);
+    assert!(rt; full.bytes().is_empty());
+    Ok(())
+}
+
+// A text of 20 bytes in pieces of 7 is read in three reads and a fourth that gives none; each of
+// them fails in turn.
+#[test]
+fn pieces(rt: HostRuntime) -> Result<(), Fail> {
+    let alloc = rt.alloc();
+    for k in 0..5 {
+        let text = Vec::from_slice(alloc, b"twenty bytes of text")?;
+        let mut source = MemorySource::over(text, 7, vec![in alloc; k]?);
+        match read_text(alloc, &mut source) {
+            Ok(read) => {
+                assert!(rt; k == 4);
+                assert!(rt; read.as_slice() == b"twenty bytes of text".as_slice());
+            }
+            Err(fault) => assert!(rt; k < 4 && fault == InputFault::Failed),
+        }
+    }
+    let long = vec![in alloc; b'a'; MOST_BYTES + 1]?;
+    let mut source = MemorySource::over(long, MOST_BYTES, Vec::new(alloc));
+    assert!(rt; read_text(alloc, &mut source).err() == Some(InputFault::TooLong));
+    Ok(())
+}
