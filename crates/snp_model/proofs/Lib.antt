@@ -1,4 +1,5 @@
 pub mod Adding
+pub mod AttemptLaws
 pub mod CoreLaws
 pub mod GuestMemoryLaws
 pub mod MemoryLaws

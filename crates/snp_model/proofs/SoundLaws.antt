@@ -1,12 +1,12 @@
 -- A scenario that lines can make is sound: each line keeps the bounds.
 use Rattle.std.proofs.Common.{◌≡◌, ℕ, zero, suc, ◌+◌, ◌*◌, ◌%◌, ◌^◌, ◌<◌, ◌≤◌, ◌⊎◌, Bool, true, false, cond, List, [], ◌∷◌, ◌++◌, length, Result, Ok, Err, Option, Some, None, refl, sym, ap, ◌∙◌, subst, arith, inl, inr, ⊎_elim}
 use Rattle.std.proofs.Math.ListN.{set, length-set}
-use Rattle.std.proofs.lemmas.List.{length-append, length-replicate}
+use Rattle.std.proofs.lemmas.List.{length-append, length-replicate, length-take-le}
 use Rattle.std.proofs.lemmas.Bool.Decides.{nat_tests}
 use Rattle.snp_model.specs.declared.reading.Reason.TheVariants.{Form, Repeat, Guest, Range}
 use Rattle.snp_model.specs.declared.entry.PageSize.{PageSize}
 use Rattle.snp_model.specs.declared.entry.PageSize.TheVariants.{Small}
-use Rattle.std.specs.Prelude.{codes, bytes_eq, drop, replicate, ◌-◌, not, ◌==◌, ◌&&◌, nat_le, nat_lt, slice_get, slice_set}
+use Rattle.std.specs.Prelude.{codes, bytes_eq, take, drop, replicate, ◌-◌, not, ◌==◌, ◌&&◌, nat_le, nat_lt, slice_get}
 use Rattle.std.specs.List.{AllByRecursion, list_any}
 use Rattle.snp_model.specs.declared.reading.Reason.{Reason}
 use Rattle.snp_model.specs.declared.item.Item.{Item}
@@ -29,8 +29,8 @@ use Rattle.snp_model.specs.Lines.{◌>>=◌, ◌>>◌, cut_at, decimal, is_row, 
 use Rattle.snp_model.specs.declared.reading.Quantity.{Quantity}
 use Rattle.snp_model.specs.declared.reading.Quantity.TheVariants as quantities
 use Rattle.snp_model.specs.Reading.{Made, nothing, reading, closed, Fault, refused, is_passed_over, turns_spell, order_of, by_rule, within, fit, fit_line, fit_words, add_regions, add_guest, add_page, add_word, add_actor, add_line, add_item_of, add_item, add_order, add_words, turns_count, Makes, Valid}
-use Rattle.snp_model.specs.ScenarioLines.{frames_of, regions_row, turn_from, turn_parts, turn_of, turns_after, order_row, version_row, first_scenario, has_no, before_pages, before_words, before_actors, before_orders, idle, opening, opened_of, next_number, page_size, guest_row, page_row, word_row, cpu_row, host_row, with_line, has_asid, is_opened, is_declared, apart, collide, key_of, validity}
-use Rattle.snp_model.specs.Sound.{Pairwise, IsGuest, AsidsDiffer, IsPage, FramesDiffer, GpnsDiffer, IsWord, IsActor, IsRole, IsItemOf, IsLineOf, IsTurn, IsSound}
+use Rattle.snp_model.specs.ScenarioLines.{frames_of, regions_row, turn_from, turn_parts, turn_of, turns_after, is_order_row, order_row, version_row, first_scenario, has_no, before_pages, before_words, before_actors, before_orders, idle, opening, opened_of, next_number, page_size, guest_row, page_row, word_row, cpu_row, host_row, with_line, has_asid, is_opened, is_declared, apart, collide, key_of, validity}
+use Rattle.snp_model.specs.Sound.{Pairwise, IsGuest, AsidsDiffer, IsPage, FramesDiffer, GpnsDiffer, IsWord, IsActor, IsCpu, IsRole, IsItemOf, IsLineOf, IsTurn, IsSound}
 
 -- steps that gave a value
 pub bind_ok : {A B E : Type 0} (r : Result A E) (f : A → Result B E) (y : B) → (r >>= f) ≡ Ok y → (x : A) × (r ≡ Ok x) × (f x ≡ Ok y)
@@ -119,10 +119,11 @@ at_end P [] k x all is = absurd (cc)
 at_end P (y ∷ ys) zero x all is = let e : y ≡ x = cc in subst P e all.0
 at_end P (y ∷ ys) (suc k) x all is = at_end P ys k x all.1 is
 
-all_set : {X : Type 0} (P : X → Type 0) (xs : List X) (k : ℕ) (x : X) → AllByRecursion P xs → P x → AllByRecursion P (slice_set xs k x)
-all_set P [] k x all one = tt
-all_set P (y ∷ ys) zero x all one = (one, all.1)
-all_set P (y ∷ ys) (suc k) x all one = (all.0, all_set P ys k x all.1 one)
+all_take : {X : Type 0} (P : X → Type 0) (xs : List X) (k : ℕ) → AllByRecursion P xs → AllByRecursion P (take k xs)
+all_take P [] zero all = tt
+all_take P [] (suc k) all = tt
+all_take P (y ∷ ys) zero all = tt
+all_take P (y ∷ ys) (suc k) all = (all.0, all_take P ys k all.1)
 
 -- more frames and more guests keep all bounds
 page_more : (frames frames' guests guests' : ℕ) → frames ≤ frames' → guests ≤ guests' → (page : PageSpec) → IsPage frames guests page → IsPage frames' guests' page
@@ -264,10 +265,10 @@ word_row_ok : (c : Scenario) (ws : List (List ℕ)) (made : WordSpec) → word_r
 unfolding word_row
 word_row_ok c ws made h = word_chain c (below (frames_of c) (word ws 1)) (below 512 (word ws 2)) (number (word ws 3)) made (below_ok _ _) (below_ok _ _) h
 
-cpu_chain : (c : Scenario) (next : Result ℕ Reason) (first : Result (Unit {0}) Reason) (guest : Result ℕ Reason) (second : Result (Unit {0}) Reason) (vmpl : Result ℕ Reason) (third : Result (Unit {0}) Reason) (npt : Result ℕ Reason) (fourth : Result (Unit {0}) Reason) (made : Actor)
+cpu_chain : (c : Scenario) (next : Result ℕ Reason) (first : Result (Unit {0}) Reason) (guest : Result ℕ Reason) (second : Result (Unit {0}) Reason) (vmpl : Result ℕ Reason) (third : Result (Unit {0}) Reason) (npt : Result ℕ Reason) (fourth : Result (Unit {0}) Reason) (made : Role)
     → ((n : ℕ) → vmpl ≡ Ok n → n < 4) → ((n : ℕ) → npt ≡ Ok n → n < frames_of c)
-    → (next >> (first >> (guest >>= (λ (g : ℕ). second >> (vmpl >>= (λ (v : ℕ). third >> (npt >>= (λ (n : ℕ). fourth >> (require (is_declared c.guests g) Guest >> Ok (idle (Cpu g v n Flat))))))))))) ≡ Ok made
-    → IsActor (frames_of c) (length c.guests) made
+    → (next >> (first >> (guest >>= (λ (g : ℕ). second >> (vmpl >>= (λ (v : ℕ). third >> (npt >>= (λ (n : ℕ). fourth >> (require (is_declared c.guests g) Guest >> Ok (Cpu g v n Flat)))))))))) ≡ Ok made
+    → IsRole (frames_of c) (length c.guests) made
 cpu_chain c (Err e) first guest second vmpl third npt fourth made b1 b2 h = absurd (cc)
 cpu_chain c (Ok n) (Err e) guest second vmpl third npt fourth made b1 b2 h = absurd (cc)
 cpu_chain c (Ok n) (Ok u) (Err e) second vmpl third npt fourth made b1 b2 h = absurd (cc)
@@ -277,31 +278,26 @@ cpu_chain c (Ok n) (Ok u) (Ok g) (Ok w) (Ok v) (Err e) npt fourth made b1 b2 h =
 cpu_chain c (Ok n) (Ok u) (Ok g) (Ok w) (Ok v) (Ok x) (Err e) fourth made b1 b2 h = absurd (cc)
 cpu_chain c (Ok n) (Ok u) (Ok g) (Ok w) (Ok v) (Ok x) (Ok f) (Err e) made b1 b2 h = absurd (cc)
 cpu_chain c (Ok n) (Ok u) (Ok g) (Ok w) (Ok v) (Ok x) (Ok f) (Ok y) made b1 b2 h =
-    let actor : Actor = idle (Cpu g v f Flat) in
-    let final : Result Actor Reason = Ok actor in
+    let role : Role = Cpu g v f Flat in
+    let final : Result Role Reason = Ok role in
     let step = then_ok (require (is_declared c.guests g) Guest) final made h in
-    let same : actor ≡ made = let e = step.2 in cc in
+    let same : role ≡ made = let e = step.2 in cc in
     let declared = require_ok (is_declared c.guests g) Guest step.0 step.1 in
-    subst (IsActor (frames_of c) (length c.guests)) same (record {
-      role = record { guest_some = grind (arith, nat_tests, declared); guest_most = grind (arith, nat_tests, declared); vmpl_below = b1 v refl; npt_below = b2 f refl; paging_flat = refl };
-      script = tt;
-    })
+    subst (IsRole (frames_of c) (length c.guests)) same
+      (let is : IsCpu (frames_of c) (length c.guests) g v f Flat = record { guest_some = grind (arith, nat_tests, declared); guest_most = grind (arith, nat_tests, declared); vmpl_below = b1 v refl; npt_below = b2 f refl; paging_flat = refl } in is)
 
-cpu_row_ok : (c : Scenario) (ws : List (List ℕ)) (made : Actor) → cpu_row c ws ≡ Ok made → IsActor (frames_of c) (length c.guests) made
+cpu_row_ok : (c : Scenario) (ws : List (List ℕ)) (made : Role) → cpu_row c ws ≡ Ok made → IsRole (frames_of c) (length c.guests) made
 unfolding cpu_row
 cpu_row_ok c ws made h =
     cpu_chain c (next_number (length c.actors) (word ws 1)) (fixed (word ws 2) (codes "cpu")) (number (word ws 3)) (fixed (word ws 4) (codes "vmpl")) (below 4 (word ws 5)) (fixed (word ws 6) (codes "npt")) (below (frames_of c) (word ws 7)) (fixed (word ws 8) (codes "flat")) made
-    (below_ok _ _) (below_ok _ _) h
+      (below_ok _ _) (below_ok _ _) h
 
-host_chain : (c : Scenario) (next : Result ℕ Reason) (first : Result (Unit {0}) Reason) (made : Actor) → (next >> (first >> Ok (idle Host))) ≡ Ok made → IsActor (frames_of c) (length c.guests) made
+host_chain : (c : Scenario) (next : Result ℕ Reason) (first : Result (Unit {0}) Reason) (made : Role) → (next >> (first >> Ok Host)) ≡ Ok made → IsRole (frames_of c) (length c.guests) made
 host_chain c (Err e) first made h = absurd (cc)
 host_chain c (Ok n) (Err e) made h = absurd (cc)
-host_chain c (Ok n) (Ok u) made h =
-    let actor : Actor = idle Host in
-    let same : actor ≡ made = cc in
-    subst (IsActor (frames_of c) (length c.guests)) same (record { role = tt; script = tt })
+host_chain c (Ok n) (Ok u) made h = let same : Host ≡ made = cc in subst (IsRole (frames_of c) (length c.guests)) same tt
 
-host_row_ok : (c : Scenario) (ws : List (List ℕ)) (made : Actor) → host_row c ws ≡ Ok made → IsActor (frames_of c) (length c.guests) made
+host_row_ok : (c : Scenario) (ws : List (List ℕ)) (made : Role) → host_row c ws ≡ Ok made → IsRole (frames_of c) (length c.guests) made
 unfolding host_row
 host_row_ok c ws made h = host_chain c (next_number (length c.actors) (word ws 1)) (fixed (word ws 2) (codes "host")) made h
 
@@ -520,30 +516,20 @@ unfolding actors_attempts script_attempts
 attempts_push [] role = refl
 attempts_push (actor ∷ actors) role = ap (λ (n : ℕ). script_attempts actor.script + n) (attempts_push actors role)
 
-actors_keep : (c : Scenario) (row : Result Actor Reason) (next : Made) → IsDraft c → ((actor : Actor) → row ≡ Ok actor → IsActor (frames_of c) (length c.guests) actor) → ((actor : Actor) → row ≡ Ok actor → actor.script ≡ []) → add_actor c row ≡ Ok next → IsMade next
+actors_keep : (c : Scenario) (row : Result Role Reason) (next : Made) → IsDraft c → ((role : Role) → row ≡ Ok role → IsRole (frames_of c) (length c.guests) role) → add_actor c row ≡ Ok next → IsMade next
 unfolding add_actor attempts_of
-actors_keep c row next draft are empty h =
-    let made = bind_ok (by_rule row) (λ (a : Actor). within quantities.Actors 32 (length c.actors + 1) (record c { actors = c.actors ++ a ∷ [] })) next h in
+actors_keep c row next draft are h =
+    let made = bind_ok (by_rule row) (λ (r : Role). within quantities.Actors 32 (length c.actors + 1) (record c { actors = c.actors ++ idle r ∷ [] })) next h in
     let row_is = rule_ok row made.0 made.1 in
-    let new : Scenario = record c { actors = c.actors ++ made.0 ∷ [] } in
+    let new : Scenario = record c { actors = c.actors ++ idle made.0 ∷ [] } in
     let fits = within_ok quantities.Actors 32 (length c.actors + 1) new next made.2 in
-    let longer : length (c.actors ++ made.0 ∷ []) ≡ length c.actors + 1 = length-append c.actors (made.0 ∷ []) in
-    let idle_is : made.0 ≡ idle made.0.role = let e = empty made.0 row_is in (λ i. record { role = made.0.role; script = e i }) in
-    let attempts : actors_attempts (c.actors ++ made.0 ∷ []) ≡ actors_attempts c.actors = ap (λ (a : Actor). actors_attempts (c.actors ++ a ∷ [])) idle_is ∙ attempts_push c.actors made.0.role in
+    let longer : length (c.actors ++ idle made.0 ∷ []) ≡ length c.actors + 1 = length-append c.actors (idle made.0 ∷ []) in
     subst IsMade fits.1 (let kept : IsDraft new = record {
-      regions_most = draft.regions_most;
-      guests_most = draft.guests_most;
-      guests = draft.guests;
-      asids_differ = draft.asids_differ;
-      pages = draft.pages;
-      frames_differ = draft.frames_differ;
-      gpns_differ = draft.gpns_differ;
-      words = draft.words;
+      regions_most = draft.regions_most; guests_most = draft.guests_most; guests = draft.guests; asids_differ = draft.asids_differ;
+      pages = draft.pages; frames_differ = draft.frames_differ; gpns_differ = draft.gpns_differ; words = draft.words;
       actors_most = let most = fits.0 in omega arith;
-      actors = all_push (IsActor (frames_of c) (length c.guests)) c.actors made.0 draft.actors (are made.0 row_is);
-      attempts_most = subst (λ (n : ℕ). n ≤ 8192) (sym attempts) draft.attempts_most;
-      order = draft.order;
-      order_most = draft.order_most;
+      actors = all_push (IsActor (frames_of c) (length c.guests)) c.actors (idle made.0) draft.actors (record { role = are made.0 row_is; script = tt });
+      attempts_most = subst (λ (n : ℕ). n ≤ 8192) (sym (attempts_push c.actors made.0)) draft.attempts_most; order = draft.order; order_most = draft.order_most;
     } in kept)
 
 orders_keep : (c : Scenario) (ws : List (List ℕ)) (next : Made) → IsDraft c → add_order c ws ≡ Ok next → IsMade next
@@ -568,6 +554,13 @@ orders_keep c ws next draft h =
       order_most = fits.0;
     } in kept)
 
+with_line_length : (actors : List Actor) (line : Line) (last : Actor) → slice_get actors (length actors - 1) ≡ Some last → length (with_line actors line last) ≡ length actors
+with_line_length [] line last is = absurd (cc)
+with_line_length (actor ∷ actors) line last is =
+    let more : Actor = record last { script = last.script ++ line ∷ [] } in
+    let taken : length (take (length (actor ∷ actors) - 1) (actor ∷ actors)) ≡ length (actor ∷ actors) - 1 = length-take-le (length (actor ∷ actors) - 1) (actor ∷ actors) (omega arith) in
+    length-append (take (length (actor ∷ actors) - 1) (actor ∷ actors)) (more ∷ []) ∙ (let e : length (take (length (actor ∷ actors) - 1) (actor ∷ actors)) + 1 ≡ length (actor ∷ actors) = omega arith in e)
+
 items_keep : (c : Scenario) (ws : List (List ℕ)) (last : Option Actor) (next : Made) → slice_get c.actors (length c.actors - 1) ≡ last → IsDraft c → add_item_of c ws last ≡ Ok next → IsMade next
 unfolding add_line
 items_keep c ws None next is draft h = absurd (cc)
@@ -578,7 +571,7 @@ items_keep c ws (Some last) next is draft h =
     let fits = within_ok quantities.Attempts 8192 (attempts_of new) new next line.2 in
     let old = at_end (IsActor (frames_of c) (length c.guests)) c.actors (length c.actors - 1) last draft.actors is in
     let more : Actor = record last { script = last.script ++ line.0 ∷ [] } in
-    let same_length : length (with_line c.actors line.0 last) ≡ length c.actors = length-set c.actors (length c.actors - 1) more in
+    let same_length = with_line_length c.actors line.0 last is in
     subst IsMade fits.1 (let kept : IsDraft new = record {
       regions_most = draft.regions_most;
       guests_most = draft.guests_most;
@@ -589,41 +582,11 @@ items_keep c ws (Some last) next is draft h =
       gpns_differ = draft.gpns_differ;
       words = draft.words;
       actors_most = let most = draft.actors_most in omega arith;
-      actors = all_set (IsActor (frames_of c) (length c.guests)) c.actors (length c.actors - 1) more draft.actors (record { role = old.role; script = all_push (IsLineOf (frames_of c) last.role) last.script line.0 old.script one });
+      actors = all_push (IsActor (frames_of c) (length c.guests)) (take (length c.actors - 1) c.actors) more (all_take (IsActor (frames_of c) (length c.guests)) c.actors (length c.actors - 1) draft.actors) (record { role = old.role; script = all_push (IsLineOf (frames_of c) last.role) last.script line.0 old.script one });
       attempts_most = fits.0;
       order = draft.order;
       order_most = draft.order_most;
     } in kept)
-
-cpu_empty : (c : Scenario) (ws : List (List ℕ)) (made : Actor) → cpu_row c ws ≡ Ok made → made.script ≡ []
-unfolding cpu_row
-cpu_empty c ws made h =
-    empty (next_number (length c.actors) (word ws 1)) (fixed (word ws 2) (codes "cpu")) (number (word ws 3)) (fixed (word ws 4) (codes "vmpl")) (below 4 (word ws 5)) (fixed (word ws 6) (codes "npt")) (below (frames_of c) (word ws 7)) (fixed (word ws 8) (codes "flat")) (λ (g : ℕ). require (is_declared c.guests g) Guest) made h
-  where
-    last : (g v n : ℕ) (r : Result (Unit {0}) Reason) (made : Actor) → (r >> Ok (idle (Cpu g v n Flat))) ≡ Ok made → made.script ≡ []
-    last g v n (Err e) made h = absurd (cc)
-    last g v n (Ok u) made h = let same : idle (Cpu g v n Flat) ≡ made = cc in ap (λ (a : Actor). a.script) (sym same)
-
-    empty : (next : Result ℕ Reason) (first : Result (Unit {0}) Reason) (guest : Result ℕ Reason) (second : Result (Unit {0}) Reason) (vmpl : Result ℕ Reason) (third : Result (Unit {0}) Reason) (npt : Result ℕ Reason) (fourth : Result (Unit {0}) Reason) (declared : ℕ → Result (Unit {0}) Reason) (made : Actor)
-        → (next >> (first >> (guest >>= (λ (g : ℕ). second >> (vmpl >>= (λ (v : ℕ). third >> (npt >>= (λ (n : ℕ). fourth >> (declared g >> Ok (idle (Cpu g v n Flat))))))))))) ≡ Ok made → made.script ≡ []
-    empty (Err e) first guest second vmpl third npt fourth declared made h = absurd (cc)
-    empty (Ok n) (Err e) guest second vmpl third npt fourth declared made h = absurd (cc)
-    empty (Ok n) (Ok u) (Err e) second vmpl third npt fourth declared made h = absurd (cc)
-    empty (Ok n) (Ok u) (Ok g) (Err e) vmpl third npt fourth declared made h = absurd (cc)
-    empty (Ok n) (Ok u) (Ok g) (Ok w) (Err e) third npt fourth declared made h = absurd (cc)
-    empty (Ok n) (Ok u) (Ok g) (Ok w) (Ok v) (Err e) npt fourth declared made h = absurd (cc)
-    empty (Ok n) (Ok u) (Ok g) (Ok w) (Ok v) (Ok x) (Err e) fourth declared made h = absurd (cc)
-    empty (Ok n) (Ok u) (Ok g) (Ok w) (Ok v) (Ok x) (Ok f) (Err e) declared made h = absurd (cc)
-    empty (Ok n) (Ok u) (Ok g) (Ok w) (Ok v) (Ok x) (Ok f) (Ok y) declared made h = last g v f (declared g) made h
-
-host_empty : (c : Scenario) (ws : List (List ℕ)) (made : Actor) → host_row c ws ≡ Ok made → made.script ≡ []
-unfolding host_row
-host_empty c ws made h = empty (next_number (length c.actors) (word ws 1)) (fixed (word ws 2) (codes "host")) made h
-  where
-    empty : (next : Result ℕ Reason) (first : Result (Unit {0}) Reason) (made : Actor) → (next >> (first >> Ok (idle Host))) ≡ Ok made → made.script ≡ []
-    empty (Err e) first made h = absurd (cc)
-    empty (Ok n) (Err e) made h = absurd (cc)
-    empty (Ok n) (Ok u) made h = let same : idle Host ≡ made = cc in ap (λ (a : Actor). a.script) (sym same)
 
 -- a whole draft with its regions is sound
 turns_length : (turns : List Turn) → length (turns_spell turns) ≡ turns_count turns
@@ -664,7 +627,7 @@ unfolding add_words
 line_keeps c ws next draft h =
     let item = add_item c ws in
     let final : Result Made Fault = cond (is_row ws (codes "end") 1 && not (c.regions == 0)) (Ok (closed c)) item in
-    let order = cond (nat_le 2 (length ws) && bytes_eq (word ws 0) (codes "order") && not (c.regions == 0)) (add_order c ws) final in
+    let order = cond (is_order_row ws && not (c.regions == 0)) (add_order c ws) final in
     let host = cond (is_row ws (codes "actor") 3 && before_orders c) (add_actor c (host_row c ws)) order in
     let cpu = cond (is_row ws (codes "actor") 9 && before_orders c) (add_actor c (cpu_row c ws)) host in
     let words = cond (is_row ws (codes "word") 4 && before_actors c) (add_word c ws) cpu in
@@ -679,10 +642,10 @@ line_keeps c ws next draft h =
     (λ no_pages h3. select (is_row ws (codes "word") 4 && before_actors c) (add_word c ws) cpu next (IsMade next)
     (λ fits made. words_keep c ws next draft made)
     (λ no_words h4. select (is_row ws (codes "actor") 9 && before_orders c) (add_actor c (cpu_row c ws)) host next (IsMade next)
-    (λ fits made. actors_keep c (cpu_row c ws) next draft (cpu_row_ok c ws) (cpu_empty c ws) made)
+    (λ fits made. actors_keep c (cpu_row c ws) next draft (cpu_row_ok c ws) made)
     (λ no_cpus h5. select (is_row ws (codes "actor") 3 && before_orders c) (add_actor c (host_row c ws)) order next (IsMade next)
-    (λ fits made. actors_keep c (host_row c ws) next draft (host_row_ok c ws) (host_empty c ws) made)
-    (λ no_hosts h6. select (nat_le 2 (length ws) && bytes_eq (word ws 0) (codes "order") && not (c.regions == 0)) (add_order c ws) final next (IsMade next)
+    (λ fits made. actors_keep c (host_row c ws) next draft (host_row_ok c ws) made)
+    (λ no_hosts h6. select (is_order_row ws && not (c.regions == 0)) (add_order c ws) final next (IsMade next)
     (λ fits made. orders_keep c ws next draft made)
     (λ no_orders h7. select (is_row ws (codes "end") 1 && not (c.regions == 0)) (Ok (closed c)) item next (IsMade next)
     (λ fits made. ended c next draft (both_second (is_row ws (codes "end") 1) (not (c.regions == 0)) fits) made)

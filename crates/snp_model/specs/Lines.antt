@@ -88,7 +88,7 @@ is_hex digits = nat_lt 0 (length digits) && nat_le (length digits) 16 && list_al
 
 -- the number of hex digits, leading zeros allowed
 unfoldable pub hex_of : List ℕ → Option ℕ
-hex_of digits = if is_hex digits then Some (value_after 16 0 digits) else None
+hex_of digits = if is_hex digits then in_word (value_after 16 0 digits) else None
 
 -- whether a word begins with `0x`
 abbrev pub is_prefixed : List ℕ → Bool

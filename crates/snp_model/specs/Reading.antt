@@ -1,17 +1,18 @@
 -- What a scenario text says: which lines it may have, what they make, and the first thing that is wrong. The text is this project's own.
-use Rattle.std.specs.Prelude.{◌≡◌, ℕ, ◌+◌, ◌-◌, ◌<◌, ◌≤◌, ◌⊎◌, ◌==◌, nat_le, Bool, not, ◌&&◌, ◌||◌, if◌then◌else◌, List, [], ◌∷◌, ◌++◌, length, replicate, slice_get, slice_index, Option, Some, None, Result, Ok, Err, codes, bytes_eq}
+use Rattle.std.specs.Prelude.{◌≡◌, ℕ, ◌+◌, ◌-◌, ◌<◌, ◌≤◌, ◌⊎◌, ◌==◌, nat_le, Bool, not, ◌&&◌, ◌||◌, if◌then◌else◌, List, [], ◌∷◌, ◌++◌, length, replicate, slice_get, slice_index, Option, Some, None, Result, Ok, Err, codes}
 use Rattle.snp_model.specs.declared.reading.Reason.{Reason}
 use Rattle.snp_model.specs.declared.reading.Reason.TheVariants.{Cut, Form, End, After}
 use Rattle.snp_model.specs.declared.reading.Quantity.{Quantity}
 use Rattle.snp_model.specs.declared.reading.Quantity.TheVariants.{Bytes, Regions, Guests, Actors, Attempts, Order}
 use Rattle.snp_model.specs.declared.scenario.Scenario.{Scenario}
 use Rattle.snp_model.specs.declared.scenario.Actor.{Actor}
+use Rattle.snp_model.specs.declared.scenario.Role.{Role}
 use Rattle.snp_model.specs.declared.scenario.Turn.{Turn}
 use Rattle.snp_model.specs.declared.item.Line.{Line}
 use Rattle.snp_model.specs.Attempts.{attempts_of}
 use Rattle.snp_model.specs.Lines.{◌>>=◌, ◌>>◌, parts_at, words_of, word, is_plain, is_row}
 use Rattle.snp_model.specs.ItemLines.{item_words}
-use Rattle.snp_model.specs.ScenarioLines.{frames_of, has_no, before_orders, before_actors, before_words, before_pages, first_scenario, version_row, regions_row, guest_row, page_row, word_row, cpu_row, host_row, with_line, order_row}
+use Rattle.snp_model.specs.ScenarioLines.{frames_of, has_no, before_orders, before_actors, before_words, before_pages, first_scenario, version_row, regions_row, guest_row, page_row, word_row, idle, cpu_row, host_row, with_line, is_order_row, order_row}
 
 -- the actors that the turns name, each as often as its turn says
 unfoldable pub turns_spell : List Turn → List ℕ
@@ -67,10 +68,10 @@ add_word c ws = do
   word ← by_rule (word_row c ws)
   Ok (reading (record c { words = c.words ++ word ∷ [] }))
 
-unfoldable pub add_actor : Scenario → Result Actor Reason → Result Made Fault
+unfoldable pub add_actor : Scenario → Result Role Reason → Result Made Fault
 add_actor c row = do
-  actor ← by_rule row
-  within Actors 32 (length c.actors + 1) (record c { actors = c.actors ++ actor ∷ [] })
+  role ← by_rule row
+  within Actors 32 (length c.actors + 1) (record c { actors = c.actors ++ idle role ∷ [] })
 
 unfoldable pub add_line : Scenario → Actor → Line → Result Made Fault
 add_line c last line =
@@ -100,7 +101,7 @@ add_words c ws =
     else if is_row ws (codes "word") 4 && before_actors c then add_word c ws
     else if is_row ws (codes "actor") 9 && before_orders c then add_actor c (cpu_row c ws)
     else if is_row ws (codes "actor") 3 && before_orders c then add_actor c (host_row c ws)
-    else if nat_le 2 (length ws) && bytes_eq (word ws 0) (codes "order") && not (c.regions == 0) then add_order c ws
+    else if is_order_row ws && not (c.regions == 0) then add_order c ws
     else if is_row ws (codes "end") 1 && not (c.regions == 0) then Ok (closed c)
     else add_item c ws
 

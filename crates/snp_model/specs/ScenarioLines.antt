@@ -1,5 +1,5 @@
 -- The lines of the scenario text, a row for each form, with the reason that a line is refused with. The text is this project's own.
-use Rattle.std.specs.Prelude.{ℕ, ◌+◌, ◌-◌, ◌*◌, ◌^◌, ◌==◌, nat_lt, nat_le, Bool, true, false, not, ◌&&◌, ◌||◌, if◌then◌else◌, List, [], ◌∷◌, ◌++◌, length, map, drop, slice_index, slice_get, slice_set, Option, Some, None, Result, Ok, Err, codes, bytes_eq}
+use Rattle.std.specs.Prelude.{ℕ, ◌+◌, ◌-◌, ◌*◌, ◌^◌, ◌==◌, nat_lt, nat_le, Bool, true, false, not, ◌&&◌, ◌||◌, if◌then◌else◌, List, [], ◌∷◌, ◌++◌, length, map, drop, take, slice_index, slice_get, Option, Some, None, Result, Ok, Err, codes, bytes_eq}
 use Rattle.std.specs.List.{list_all, list_any, range_with_len}
 use Rattle.snp_model.specs.declared.reading.Reason.{Reason}
 use Rattle.snp_model.specs.declared.reading.Reason.TheVariants.{Form, Range, Guest, Repeat}
@@ -139,7 +139,7 @@ abbrev pub idle : Role → Actor
 idle role = record { role = role; script = [] }
 
 -- `actor N cpu G vmpl V npt F flat`
-unfoldable pub cpu_row : Scenario → List (List ℕ) → Result Actor Reason
+unfoldable pub cpu_row : Scenario → List (List ℕ) → Result Role Reason
 cpu_row c ws = do
   next_number (length c.actors) (word ws 1)
   fixed (word ws 2) (codes "cpu")
@@ -150,18 +150,18 @@ cpu_row c ws = do
   npt ← below (frames_of c) (word ws 7)
   fixed (word ws 8) (codes "flat")
   require (is_declared c.guests guest) Guest
-  Ok (idle (Cpu guest vmpl npt Flat))
+  Ok (Cpu guest vmpl npt Flat)
 
 -- `actor N host`
-unfoldable pub host_row : Scenario → List (List ℕ) → Result Actor Reason
+unfoldable pub host_row : Scenario → List (List ℕ) → Result Role Reason
 host_row c ws = do
   next_number (length c.actors) (word ws 1)
   fixed (word ws 2) (codes "host")
-  Ok (idle Host)
+  Ok Host
 
 -- the actors with one more item for the last of them
 abbrev pub with_line : List Actor → Line → Actor → List Actor
-with_line actors line last = slice_set actors (length actors - 1) (record last { script = last.script ++ line ∷ [] })
+with_line actors line last = take (length actors - 1) actors ++ record last { script = last.script ++ line ∷ [] } ∷ []
 
 -- a run of a schedule
 unfoldable pub turn_from : ℕ → ℕ → Result Turn Reason
@@ -180,6 +180,10 @@ turn_parts w (Some cut) = do
 
 unfoldable pub turn_of : List ℕ → Result Turn Reason
 turn_of w = turn_parts w (cut_at 42 w)
+
+-- whether the first word is `order`, and runs follow
+abbrev pub is_order_row : List (List ℕ) → Bool
+is_order_row ws = nat_le 2 (length ws) && bytes_eq (word ws 0) (codes "order")
 
 -- `order R..`: the runs of these words behind those of the words before them
 unfoldable pub turns_after : List Turn → List (List ℕ) → Result (List Turn) Reason

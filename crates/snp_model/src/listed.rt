@@ -1,4 +1,4 @@
-ghost use Rattle.std.specs.Prelude.{◌≡◌, ◌==◌, [], ◌∷◌, ◌++◌, length, IfOk, OnOk, OnErr};
+ghost use Rattle.std.specs.Prelude.{◌≡◌, ◌==◌, [], ◌∷◌, ◌++◌, ◌-◌, length, take, slice_get, IfOk, OnOk, OnErr};
 
 use std::alloc::{AllocError, Global};
 use std::marker::Model;
@@ -78,6 +78,16 @@ impl<T: Drop> Listed<T> {
     }
 }
 
+impl<T> Listed<T> {
+    /// Takes the last element off.
+    pub fn pop(&mut self) -> Option<T>
+        ensures last { result ≡ slice_get self.old (length self.old - 1) }
+        ensures rest { self.new ≡ take (length self.old - 1) self.old }
+    {
+        self.items.pop()
+    }
+}
+
 impl<T: Copy> Listed<T> {
     /// A copy of the elements of a slice.
     pub fn from_slice(alloc: Global, items: &[T]) -> Result<Listed<T>, AllocError>
@@ -85,6 +95,15 @@ impl<T: Copy> Listed<T> {
     {
         let items = Vec::from_slice(alloc, items)?;
         Ok(Listed { items })
+    }
+
+    /// Adds copies of the elements of a slice at the end.
+    pub fn extend_from_slice(&mut self, items: &[T]) -> Result<(), AllocError>
+        ensures ok { OnOk result (self.new ≡ self.old ++ items.now) }
+        ensures err { OnErr result (self.new ≡ self.old) }
+    {
+        self.items.extend_from_slice(items)?;
+        Ok(())
     }
 }
 

@@ -1,5 +1,12 @@
 pub mod Digits
+pub mod FindingLaws
 pub mod Lines
+pub mod NumberLaws
+pub mod PartsLaws
 pub mod Pieces
+pub mod ReadingLaws
 pub mod Runs
 pub mod ScheduleLaws
+pub mod StepLaws
+pub mod TextLaws
+pub mod WordsLaws

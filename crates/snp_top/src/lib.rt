@@ -5,7 +5,9 @@ pub mod input;
 pub mod outside_port;
 pub mod report_text;
 pub mod run_journal;
+pub mod scenario_text;
 pub mod schedule;
+pub mod script_text;
 
 #[cfg(test)]
 mod tests;

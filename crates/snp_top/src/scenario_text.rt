@@ -1,0 +1,14 @@
+//! The scenario text.
+
+mod draft;
+mod fault;
+pub mod laws;
+mod reading;
+mod rows;
+mod steps;
+#[cfg(test)]
+mod tests;
+mod text;
+
+pub use fault::ScenarioFault;
+pub use text::read_scenario;

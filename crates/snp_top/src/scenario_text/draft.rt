@@ -1,0 +1,35 @@
+ghost use Rattle.std.specs.Prelude.{◌≡◌, ◌≤◌, length};
+ghost use Rattle.snp_model.specs.Reading.{turns_count};
+ghost use Rattle.snp_model.specs.Attempts.{actors_attempts};
+
+use snp_model::{Listed, Scenario};
+use std::alloc::Global;
+
+/// A scenario whose text is being read, with running sums for its limits.
+#[derive(Drop)]
+pub struct Draft {
+    /// What the lines so far make.
+    pub scenario: Scenario,
+    /// The attempts of all items.
+    pub attempts: u32,
+    /// The entries of the schedule.
+    pub turns: u32,
+    ghost regions_most: { scenario.regions ≤ 16 },
+    ghost guests_most: { length scenario.guests ≤ 8 },
+    ghost actors_most: { length scenario.actors ≤ 32 },
+    ghost attempts_counted: { attempts ≡ actors_attempts scenario.actors },
+    ghost attempts_most: { attempts ≤ 8192 },
+    ghost turns_counted: { turns ≡ turns_count scenario.order },
+    ghost turns_most: { turns ≤ 262144 },
+}
+
+/// What is made so far.
+#[derive(Drop)]
+pub enum Made {
+    /// Nothing before the line `snp 1`.
+    Nothing,
+    /// A scenario.
+    Reading(Draft),
+    /// The scenario of a text that ended.
+    Closed(Scenario),
+}

@@ -1,0 +1,196 @@
+ghost use Rattle.std.specs.Prelude.{◌≡◌, ℕ, ◌≤◌, ◌<◌, ◌+◌, ◌*◌, ◌%◌, bytes_eq, length, IfOk, IsTrue};
+ghost use Rattle.std.specs.List.{list_all};
+ghost use Rattle.snp_model.specs.Lines.{
+    require, is_decimal_digit, is_hex_digit, digit_value, is_decimal, decimal_of, in_word, value_after, is_hex, hex_of, is_prefixed, number_of,
+    decimal, number, fixed, ranged, below, multiple
+};
+
+use snp_model::Reason;
+
+/// Whether a word is this one.
+pub fn is_word(word: &[u8], name: &[u8]) -> bool
+    ensures { result ≡ bytes_eq word.now name.now }
+{
+    word == name
+}
+
+/// A word that is always the same.
+#[tactic(auto, unfolding(snp_model::specs::Lines::fixed))]
+pub fn read_fixed(word: &[u8], name: &[u8]) -> Result<(), Reason>
+    ensures { result ≡ fixed word.now name.now }
+{
+    if is_word(word, name) {
+        Ok(())
+    } else {
+        Err(Reason::Form)
+    }
+}
+
+/// Whether a byte is `0` to `9`.
+fn is_decimal_digit(byte: u8) -> bool
+    ensures { result ≡ is_decimal_digit byte }
+{
+    (b'0'..=b'9').contains(&byte)
+}
+
+/// Whether a byte is `0` to `9` or `a` to `f`.
+pub fn is_hex_digit(byte: u8) -> bool
+    ensures { result ≡ is_hex_digit byte }
+{
+    is_decimal_digit(byte) || (b'a'..=b'f').contains(&byte)
+}
+
+/// The value of a digit.
+pub fn digit_value(byte: u8) -> u8
+    ensures value { result ≡ digit_value byte }
+    ensures small { IsTrue (is_hex_digit byte) → result < 16 }
+{
+    if byte <= b'9' {
+        byte.saturating_sub(b'0')
+    } else {
+        byte.saturating_sub(b'a' - 10)
+    }
+}
+
+fn all_decimal(digits: &[u8]) -> bool
+    ensures { result ≡ list_all is_decimal_digit digits.now }
+{
+    digits.iter().all(|byte| is_decimal_digit(*byte))
+}
+
+/// Whether each byte is a hex digit.
+pub fn all_hex(digits: &[u8]) -> bool
+    ensures { result ≡ list_all is_hex_digit digits.now }
+{
+    digits.iter().all(|byte| is_hex_digit(*byte))
+}
+
+fn is_decimal(digits: &[u8]) -> bool
+    ensures { result ≡ is_decimal digits.now }
+{
+    !digits.is_empty() && all_decimal(digits) && (digits.len() == 1 || digits[0] != b'0')
+}
+
+fn is_hex(digits: &[u8]) -> bool
+    ensures { result ≡ is_hex digits.now }
+{
+    !digits.is_empty() && digits.len() <= 16 && all_hex(digits)
+}
+
+fn is_prefixed(word: &[u8]) -> bool
+    ensures { result ≡ is_prefixed word.now }
+{
+    word.len() >= 2 && word[0] == b'0' && word[1] == b'x'
+}
+
+/// A number of this word, or none.
+#[tactic(auto, unfolding(snp_model::specs::Lines::number_of))]
+pub fn number_of(word: &[u8]) -> Option<u64>
+    ensures { result ≡ number_of word.now }
+{
+    if is_prefixed(word) {
+        hex_of(&word[2..])
+    } else {
+        decimal_of(word)
+    }
+}
+
+// The number that digits spell, where it is below 2^64.
+fn value_of(base: u64, digits: &[u8]) -> Option<u64>
+    requires { 0 < base }
+    ensures { result ≡ in_word (value_after base 0 digits.now) }
+{
+    let mut value: u64 = 0;
+    for digit in digits {
+        match add_digit(base, value, *digit) {
+            Some(more) => value = more,
+            None => return None,
+        }
+    }
+    Some(value)
+}
+
+// The number that one more digit makes.
+fn add_digit(base: u64, value: u64, digit: u8) -> Option<u64>
+    ensures { result ≡ in_word (value * base + digit_value digit) }
+{
+    match value.checked_mul(base) {
+        Some(high) => high.checked_add(u64::from(digit_value(digit))),
+        None => None,
+    }
+}
+
+#[tactic(auto, unfolding(snp_model::specs::Lines::decimal_of))]
+fn decimal_of(digits: &[u8]) -> Option<u64>
+    ensures { result ≡ decimal_of digits.now }
+{
+    if is_decimal(digits) {
+        value_of(10, digits)
+    } else {
+        None
+    }
+}
+
+#[tactic(auto, unfolding(snp_model::specs::Lines::hex_of))]
+fn hex_of(digits: &[u8]) -> Option<u64>
+    ensures { result ≡ hex_of digits.now }
+{
+    if is_hex(digits) {
+        value_of(16, digits)
+    } else {
+        None
+    }
+}
+
+/// A number.
+#[tactic(auto, unfolding(snp_model::specs::Lines::number))]
+pub fn read_number(word: &[u8]) -> Result<u64, Reason>
+    ensures { result ≡ number word.now }
+{
+    number_of(word).ok_or(Reason::Number)
+}
+
+/// A decimal number.
+#[tactic(auto, unfolding(snp_model::specs::Lines::decimal))]
+pub fn read_decimal(word: &[u8]) -> Result<u64, Reason>
+    ensures { result ≡ decimal word.now }
+{
+    decimal_of(word).ok_or(Reason::Number)
+}
+
+/// A number from `low` to `high`.
+#[tactic(auto, unfolding(snp_model::specs::Lines::ranged))]
+pub fn read_ranged(low: u64, high: u64, word: &[u8]) -> Result<u64, Reason>
+    ensures read { result ≡ ranged low high word.now }
+    ensures bounds { IfOk result (λ n. (low ≤ n) × (n ≤ high)) }
+{
+    let n = read_number(word)?;
+    if low <= n && n <= high {
+        Ok(n)
+    } else {
+        Err(Reason::Range)
+    }
+}
+
+/// A number below `end`.
+#[tactic(auto, unfolding(snp_model::specs::Lines::below))]
+pub fn read_below(end: u64, word: &[u8]) -> Result<u64, Reason>
+    ensures read { result ≡ below end word.now }
+    ensures bounds { IfOk result (λ n. n < end) }
+{
+    let n = read_number(word)?;
+    if n < end { Ok(n) } else { Err(Reason::Range) }
+}
+
+/// The number, if it is a multiple of `unit`.
+#[tactic(auto, unfolding(snp_model::specs::Lines::multiple))]
+pub fn multiple(unit: u64, n: u64) -> Result<u64, Reason>
+    requires { 0 < unit }
+    ensures { result ≡ multiple unit n }
+{
+    if n % unit == 0 {
+        Ok(n)
+    } else {
+        Err(Reason::Align)
+    }
+}
