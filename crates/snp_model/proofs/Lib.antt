@@ -7,6 +7,7 @@ pub mod MemoryLaws
 pub mod NestedReadsLaws
 pub mod OpeningLaws
 pub mod OrderedLaws
+pub mod RegionLaws
 pub mod RoomLaws
 pub mod RunLaws
 pub mod SoundLaws

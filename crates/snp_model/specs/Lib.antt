@@ -1,8 +1,11 @@
+pub mod Accesses
 pub mod Aes
 pub mod AesField
+pub mod Allowed
 pub mod Attempts
 pub mod CommandLine
 pub mod Ending
+pub mod Entries
 pub mod EventText
 pub mod Facts
 pub mod Faults
@@ -23,6 +26,7 @@ pub mod Operations
 pub mod Outside
 pub mod Polynomials
 pub mod Reading
+pub mod RegionWords
 pub mod Report
 pub mod Room
 pub mod Run

@@ -1,0 +1,87 @@
+ghost use Rattle.std.specs.Prelude.{◌≡◌, ◌≢◌, ◌↔◌, true, false};
+ghost use Rattle.snp_model.specs.declared.access.Verdict.TheVariants.{Pass, Hidden};
+ghost use Rattle.snp_model.specs.Accesses.{IsPlace};
+ghost use Rattle.snp_model.specs.Allowed.{IsAllowed};
+ghost use Rattle.snp_model.specs.Verdicts.{is_large, private_verdict, private_refusal, shared_verdict};
+
+use crate::operation::{lacks, writes};
+use snp_model::{NestedFault, Op, Outcome, PageSize, Place, RmpEntry, Verdict};
+
+/// The verdict on a guest's private access to a frame with this entry: the first row of the table that
+/// applies (APM volume 2, 15.36.10).
+#[tactic(auto, unfolding(snp_model::specs::Verdicts::private_verdict))]
+pub fn private_verdict(entry: &RmpEntry, at: &Place, op: &Op) -> Verdict
+    requires { IsPlace at.now }
+    ensures verdict { result ≡ private_verdict entry.now at.now op.now }
+    ensures passes { (result ≡ Pass) ↔ IsAllowed entry.now at.now op.now }
+    ensures never_hidden { result ≢ Hidden }
+{
+    if !entry.assigned || entry.asid != at.asid {
+        private_refusal(at, op, false)
+    } else if entry.gpn != at.gpn {
+        private_refusal(at, op, false)
+    } else if entry.immutable {
+        private_refusal(at, op, false)
+    } else if is_large(at.leaf) && !is_large(entry.size) {
+        private_refusal(at, op, false)
+    } else if !entry.validated {
+        Verdict::Fault(Outcome::Vc(0x404))
+    } else if lacks(entry.perms[at.vmpl as usize], op) {
+        private_refusal(at, op, true)
+    } else {
+        Verdict::Pass
+    }
+}
+
+/// The verdict on a guest's shared access to a frame with this entry.
+#[tactic(auto, unfolding(snp_model::specs::Verdicts::shared_verdict))]
+pub fn shared_verdict(entry: &RmpEntry, at: &Place, op: &Op) -> Verdict
+    requires { IsPlace at.now }
+    ensures verdict { result ≡ shared_verdict entry.now at.now op.now }
+    ensures unassigned { entry.now.assigned ≡ false → result ≡ Pass }
+    ensures assigned { entry.now.assigned ≡ true → result ≢ Pass }
+{
+    if entry.assigned && writes(op) {
+        let fault = NestedFault {
+            present: true,
+            write: true,
+            rmp: true,
+            table: at.table,
+            private: false,
+            size: false,
+            vmpl: false,
+        };
+        Verdict::Fault(Outcome::Npf(fault.code()))
+    } else if entry.assigned {
+        Verdict::Hidden
+    } else {
+        Verdict::Pass
+    }
+}
+
+// A private access is refused by the RMP: by the VMPL's permissions, or before.
+fn private_refusal(at: &Place, op: &Op, by_permissions: bool) -> Verdict
+    ensures verdict { result ≡ private_refusal at.now op.now by_permissions }
+    ensures faults { result ≢ Pass }
+{
+    let fault = NestedFault {
+        present: true,
+        write: writes(op),
+        rmp: true,
+        table: at.table,
+        private: true,
+        size: false,
+        vmpl: by_permissions,
+    };
+    Verdict::Fault(Outcome::Npf(fault.code()))
+}
+
+// Whether a page is of 2 MB.
+fn is_large(size: PageSize) -> bool
+    ensures { result ≡ is_large size }
+{
+    match size {
+        PageSize::Small => false,
+        PageSize::Large => true,
+    }
+}
