@@ -283,13 +283,13 @@ cpu_chain c (Ok n) (Ok u) (Ok g) (Ok w) (Ok v) (Ok x) (Ok f) (Ok y) made b1 b2 h
     let same : role ≡ made = let e = step.2 in cc in
     let declared = require_ok (is_declared c.guests g) Guest step.0 step.1 in
     subst (IsRole (frames_of c) (length c.guests)) same
-      (let is : IsCpu (frames_of c) (length c.guests) g v f Flat = record { guest_some = grind (arith, nat_tests, declared); guest_most = grind (arith, nat_tests, declared); vmpl_below = b1 v refl; npt_below = b2 f refl; paging_flat = refl } in is)
+    (let is : IsCpu (frames_of c) (length c.guests) g v f Flat = record { guest_some = grind (arith, nat_tests, declared); guest_most = grind (arith, nat_tests, declared); vmpl_below = b1 v refl; npt_below = b2 f refl; paging_flat = refl } in is)
 
 cpu_row_ok : (c : Scenario) (ws : List (List ℕ)) (made : Role) → cpu_row c ws ≡ Ok made → IsRole (frames_of c) (length c.guests) made
 unfolding cpu_row
 cpu_row_ok c ws made h =
     cpu_chain c (next_number (length c.actors) (word ws 1)) (fixed (word ws 2) (codes "cpu")) (number (word ws 3)) (fixed (word ws 4) (codes "vmpl")) (below 4 (word ws 5)) (fixed (word ws 6) (codes "npt")) (below (frames_of c) (word ws 7)) (fixed (word ws 8) (codes "flat")) made
-      (below_ok _ _) (below_ok _ _) h
+    (below_ok _ _) (below_ok _ _) h
 
 host_chain : (c : Scenario) (next : Result ℕ Reason) (first : Result (Unit {0}) Reason) (made : Role) → (next >> (first >> Ok Host)) ≡ Ok made → IsRole (frames_of c) (length c.guests) made
 host_chain c (Err e) first made h = absurd (cc)
@@ -524,11 +524,19 @@ actors_keep c row next draft are h =
     let fits = within_ok quantities.Actors 32 (length c.actors + 1) new next made.2 in
     let longer : length (c.actors ++ idle made.0 ∷ []) ≡ length c.actors + 1 = length-append c.actors (idle made.0 ∷ []) in
     subst IsMade fits.1 (let kept : IsDraft new = record {
-      regions_most = draft.regions_most; guests_most = draft.guests_most; guests = draft.guests; asids_differ = draft.asids_differ;
-      pages = draft.pages; frames_differ = draft.frames_differ; gpns_differ = draft.gpns_differ; words = draft.words;
+      regions_most = draft.regions_most;
+      guests_most = draft.guests_most;
+      guests = draft.guests;
+      asids_differ = draft.asids_differ;
+      pages = draft.pages;
+      frames_differ = draft.frames_differ;
+      gpns_differ = draft.gpns_differ;
+      words = draft.words;
       actors_most = let most = fits.0 in omega arith;
       actors = all_push (IsActor (frames_of c) (length c.guests)) c.actors (idle made.0) draft.actors (record { role = are made.0 row_is; script = tt });
-      attempts_most = subst (λ (n : ℕ). n ≤ 8192) (sym (attempts_push c.actors made.0)) draft.attempts_most; order = draft.order; order_most = draft.order_most;
+      attempts_most = subst (λ (n : ℕ). n ≤ 8192) (sym (attempts_push c.actors made.0)) draft.attempts_most;
+      order = draft.order;
+      order_most = draft.order_most;
     } in kept)
 
 orders_keep : (c : Scenario) (ws : List (List ℕ)) (next : Made) → IsDraft c → add_order c ws ≡ Ok next → IsMade next

@@ -1,6 +1,7 @@
 //! The calls of the program, and the texts that it reads and writes.
 #![tactic(auto)]
 
+pub mod batch;
 pub mod input;
 pub mod outside_port;
 pub mod replay;
