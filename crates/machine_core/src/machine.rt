@@ -111,7 +111,11 @@ impl Machine {
         };
         GuestLine {
             guest,
-            state: if opened { GuestState::Running } else { GuestState::Absent },
+            state: if opened {
+                GuestState::Running
+            } else {
+                GuestState::Absent
+            },
             pages: 0,
             digest: [0; 48],
         }

@@ -1,3 +1,4 @@
+pub mod BatchLaws
 pub mod Digits
 pub mod FindingLaws
 pub mod Lines

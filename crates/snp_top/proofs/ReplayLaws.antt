@@ -16,6 +16,14 @@ use Rattle.snp_model.specs.State.{Contexts, State}
 use Rattle.snp_model.specs.Step.{after}
 use Rattle.snp_model.proofs.RoomLaws.{opening_are, opening_room}
 use Rattle.snp_model.proofs.RunLaws.{after_guests}
+use Rattle.std.specs.Prelude.{Option, None, Some, IfSome}
+use Rattle.snp_model.specs.declared.reading.Quantity.{Quantity}
+use Rattle.snp_model.specs.declared.reading.Reason.{Reason}
+use Rattle.snp_model.specs.Outside.{TakesAll}
+use Rattle.snp_model.specs.Reading.{Reads, Refuses, Passes}
+use Rattle.snp_top.specs.Answers.{Finding, says, wrong, too_much, Finds}
+use Rattle.snp_top.specs.Replays.{SaysNone}
+use Rattle.snp_top.proofs.FindingLaws.{one_finding}
 use Rattle.snp_top.specs.Schedule.{HasRoom, Plays}
 
 -- one more guest
@@ -56,3 +64,15 @@ order_short c sound = sound.order_most
 pub attempts_few : (c : Scenario) → IsSound c → actors_attempts c.actors ≤ 8192
 unfolding attempts_of
 attempts_few c sound = sound.attempts_most
+
+-- a text with something wrong says no scenario
+says_none : (left now : Option (List ℕ)) (bytes text : List ℕ) (other : Finding) → TakesAll left now bytes → text ≡ bytes → Finds text other → ((c : Scenario) → other ≡ says c → ⊥) → IfSome left SaysNone
+says_none None now bytes text other takes same found differs = tt
+says_none (Some t) now bytes text other takes same found differs =
+    λ c reads. differs c (one_finding text other (says c) found (subst (λ (s : List ℕ). Reads s c) (takes.1 ∙ sym same) reads))
+
+pub refused_says_none : (left now : Option (List ℕ)) (bytes text : List ℕ) (line : ℕ) (reason : Reason) → TakesAll left now bytes → text ≡ bytes → Refuses text line reason → IfSome left SaysNone
+refused_says_none left now bytes text line reason takes same refused = says_none left now bytes text (wrong line reason) takes same refused (λ c e. cc)
+
+pub passed_says_none : (left now : Option (List ℕ)) (bytes text : List ℕ) (quantity : Quantity) (count : ℕ) → TakesAll left now bytes → text ≡ bytes → Passes text quantity count → IfSome left SaysNone
+passed_says_none left now bytes text quantity count takes same passed = says_none left now bytes text (too_much quantity count) takes same passed (λ c e. cc)

@@ -10,7 +10,9 @@ use Rattle.snp_model.specs.Reading.{Reads, order_of}
 use Rattle.snp_model.specs.Run.{IsDefined, IsOrdered}
 use Rattle.snp_top.specs.declared.batch.Answer.{Answer}
 use Rattle.snp_top.specs.declared.batch.Answer.TheVariants as answers
-use Rattle.snp_top.specs.Replays.{IsRead, SaysNone}
+use Rattle.snp_top.specs.declared.replay.ReplayFault.{ReplayFault}
+use Rattle.snp_top.specs.declared.replay.ReplayFault.TheVariants as faults
+use Rattle.snp_top.specs.Replays.{SaysNone}
 use Rattle.snp_top.specs.Schedule.{IsFirstBad}
 
 -- the exit status of an answer
@@ -38,9 +40,33 @@ pub record Outside : Type 0 where
   pub written : Option (List ℕ)
   pub write_faults : ℕ
 
--- a line is written: whole, or a front of it where the sink failed
-abbrev pub WritesLine : Outside → Outside → List ℕ → Type 0
-WritesLine before now line = Adds before.written now.written line ⊎ (AddsPrefix before.written now.written line × Rose before.write_faults now.write_faults)
+-- a line is written: whole, or a front of it where the sink's count of faults rose
+abbrev pub WritesLine : Option (List ℕ) → Option (List ℕ) → ℕ → ℕ → List ℕ → Type 0
+WritesLine old now before after line = Adds old now line ⊎ (AddsPrefix old now line × Rose before after)
+
+-- a report is written, or a front of it where the sink's count rose
+abbrev pub ReportsTo : Option (List ℕ) → Option (List ℕ) → ℕ → ℕ → List ℕ → Answer → Type 0
+ReportsTo old now before after text answers.Done = Adds old now text
+ReportsTo old now before after text answers.Write = AddsPrefix old now text × Rose before after
+ReportsTo old now before after text answer = ⊥
+
+-- the answer of a replay that came to nothing
+abbrev pub answer_of : ReplayFault → Answer
+answer_of faults.Read = answers.Read
+answer_of faults.Scenario = answers.Scenario
+answer_of faults.Memory = answers.Memory
+answer_of (faults.Schedule turn) = answers.Schedule turn
+
+-- its error line
+unfoldable pub line_of : ReplayFault → List ℕ
+line_of faults.Read = codes "error read\n"
+line_of faults.Scenario = codes "error scenario\n"
+line_of faults.Memory = codes "error memory\n"
+line_of (faults.Schedule turn) = schedule_line turn.entry turn.actor
+
+-- such a line, between two moments
+abbrev pub Wrote : Outside → Outside → List ℕ → Type 0
+Wrote before now line = WritesLine before.written now.written before.write_faults now.write_faults line
 
 -- the text says a scenario, and this holds of it
 abbrev pub SaysOne : List ℕ → (Scenario → Type 0) → Type 0
@@ -54,17 +80,28 @@ ForScenario left P = IfSome left (λ text. (c : Scenario) → Reads text c → P
 abbrev pub SaysRun : Option (List ℕ) → Type 0
 SaysRun left = IfSome left (λ text. SaysOne text (λ c. IsDefined c (order_of c)))
 
--- what an answer tells
+-- it says one, whose schedule makes a run, and a front of the report was written
+abbrev pub SaysCutReport : Option (List ℕ) → Option (List ℕ) → Option (List ℕ) → Option (List ℕ) → Type 0
+SaysCutReport left now old written = IfSome left (λ text. (now ≡ Some []) × SaysOne text (λ c. IsDefined c (order_of c) × AddsPrefix old written (report_of c (order_of c))))
+
+-- an entry and an actor are named on the error line, and the text says a scenario in whose schedule that entry is the first that names a missing or finished actor, this one
+abbrev pub SaysBadTurn : Option (List ℕ) → Option (List ℕ) → Option (List ℕ) → Option (List ℕ) → ℕ → ℕ → Type 0
+SaysBadTurn left now old written before after =
+    (entry : ℕ) × (actor : ℕ)
+    × IfSome left (λ text. (now ≡ Some []) × SaysOne text (λ c. IsFirstBad (opening c) (order_of c) entry actor))
+    × WritesLine old written before after (schedule_line entry actor)
+
+-- what an answer tells, of the words and of the outside before and after
 abbrev pub Explains : Answer → List (List ℕ) → Outside → Outside → Type 0
 Explains answers.Done words before now =
     (are_words words ≡ true) × IfSome before.left (λ text. (now.left ≡ Some []) × SaysOne text (λ c. IsDefined c (order_of c) × Adds before.written now.written (report_of c (order_of c))))
-Explains answers.Words words before now = (are_words words ≡ false) × WritesLine before now (codes "error words\n")
-Explains answers.Scenario words before now = (are_words words ≡ true) × IfSome before.left SaysNone × WritesLine before now (codes "error scenario\n")
-Explains answers.Read words before now = (are_words words ≡ true) × Rose before.read_faults now.read_faults × WritesLine before now (codes "error read\n")
+Explains answers.Words words before now = (are_words words ≡ false) × Wrote before now (codes "error words\n")
+Explains answers.Scenario words before now = (are_words words ≡ true) × IfSome before.left SaysNone × Wrote before now (codes "error scenario\n")
+Explains answers.Read words before now = (are_words words ≡ true) × Rose before.read_faults now.read_faults × Wrote before now (codes "error read\n")
 Explains answers.Write words before now =
     (are_words words ≡ true) × Rose before.write_faults now.write_faults
     × IfSome before.left (λ text. (now.left ≡ Some []) × SaysOne text (λ c. IsDefined c (order_of c) × AddsPrefix before.written now.written (report_of c (order_of c))))
-Explains answers.Memory words before now = (are_words words ≡ true) × WritesLine before now (codes "error memory\n")
+Explains answers.Memory words before now = (are_words words ≡ true) × Wrote before now (codes "error memory\n")
 Explains (answers.Schedule turn) words before now =
     (are_words words ≡ true) × IfSome before.left (λ text. (now.left ≡ Some []) × SaysOne text (λ c. IsFirstBad (opening c) (order_of c) turn.entry turn.actor))
-    × WritesLine before now (schedule_line turn.entry turn.actor)
+    × Wrote before now (schedule_line turn.entry turn.actor)

@@ -49,6 +49,7 @@ impl From<AllocError> for ReplayFault {
 /// Reads a scenario from a source, and runs its schedule.
 pub fn replay<S: Source>(alloc: Global, source: &mut S) -> Result<Played, ReplayFault>
     ensures answer { ReplaysTo (S.left source.old) (S.left source.new) result }
+    ensures short { IfOk result (λ played. length played.journal.list ≤ 262_144) }
     ensures failed { IfErr result (HasFailed (S.faults source.old) (S.faults source.new)) }
     ensures later { S.faults source.old ≤ S.faults source.new }
 {
@@ -69,7 +70,8 @@ pub fn replay<S: Source>(alloc: Global, source: &mut S) -> Result<Played, Replay
 /// Runs the schedule of a scenario. All memory is taken before the first event.
 pub fn run(alloc: Global, scenario: &Scenario) -> Result<Played, ReplayFault>
     requires { Valid scenario.now }
-    ensures { RunsTo scenario.now result }
+    ensures answer { RunsTo scenario.now result }
+    ensures short { IfOk result (λ played. length played.journal.list ≤ 262_144) }
 {
     let mut machine = Machine::build(alloc, scenario)?;
     let mut guests = Vec::with_capacity(alloc, machine.guests() as usize)?;

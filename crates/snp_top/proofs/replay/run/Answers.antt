@@ -9,6 +9,7 @@ use Rattle.snp_model.specs.Opening.{opening}
 use Rattle.snp_model.specs.Reading.{turns_spell, order_of}
 use Rattle.snp_model.specs.Run.{IsDefinedFrom, run_from, state_from}
 use Rattle.snp_model.specs.State.{State}
+use Rattle.snp_model.proofs.RunLaws.{length_run}
 use Rattle.snp_model.proofs.SoundLaws.{valid_is_sound}
 use Rattle.snp_top.specs.Schedule.{IsFirstBad, Plays}
 use Rattle.snp_top.proofs.ReplayLaws.{state_guests, opening_has_room, order_short, attempts_few}
@@ -46,9 +47,9 @@ take_guests-requires-clause-room c =
     let exact : vec_capacity c.in_ok-guests.guests ≡ c.guests.result = c.in_ok-guests.ensures.exact in
     omega arith
 
-pub returns-in-Ok : goal.returns-in-Ok
+pub returns-in-Ok-clause-answer : goal.returns-in-Ok-clause-answer
 unfolding order_of
-returns-in-Ok c =
+returns-in-Ok-clause-answer c =
     let scenario = c.args.scenario.now in
     let m = state_of c.in_ok-machine.machine in
     let n = state_of c.play.new.machine in
@@ -62,11 +63,23 @@ returns-in-Ok c =
       guests = c.take_guests.ensures ∙ ap lines_of (plays.state ∙ (λ i. state_from (opens i) (order i)));
     }
 
-pub returns : goal.returns
+pub returns-clause-answer : goal.returns-clause-answer
 unfolding order_of
-returns c =
+returns-clause-answer c =
     let scenario = c.args.scenario.now in
     let m = state_of c.in_ok-machine.machine in
     let opens : m ≡ opening scenario = c.in_ok-machine.ensures in
     let order : turns_spell c.as_slice-2.result.now ≡ turns_spell scenario.order = ap turns_spell c.as_slice-2.ensures in
     subst (λ (k : State). IsFirstBad k (turns_spell scenario.order) c.in-Err.turn.entry c.in-Err.turn.actor) opens (subst (λ (s : List ℕ). IsFirstBad m s c.in-Err.turn.entry c.in-Err.turn.actor) order c.in-Err.ensures.bad)
+
+pub returns-in-Ok-clause-short : goal.returns-in-Ok-clause-short
+returns-in-Ok-clause-short c =
+    let scenario = c.args.scenario.now in
+    let m = state_of c.in_ok-machine.machine in
+    let n = state_of c.play.new.machine in
+    let plays : Plays m (turns_spell c.as_slice-2.result.now) c.in_ok-journal.journal c.play.new.journal n = c.in-Ok.ensures.played in
+    let empty : c.in_ok-journal.journal.list ≡ [] = ap (λ (j : Entries). j.list) c.in_ok-journal.ensures in
+    let events : c.play.new.journal.list ≡ run_from m (turns_spell c.as_slice-2.result.now) = plays.events ∙ ap (λ (l : List (ℕ × Event)). l ++ run_from m (turns_spell c.as_slice-2.result.now)) empty in
+    let lengths : length c.play.new.journal.list ≡ length (turns_spell scenario.order) = ap length events ∙ length_run m (turns_spell c.as_slice-2.result.now) ∙ ap (λ (ts : List Turn). length (turns_spell ts)) c.as_slice-2.ensures in
+    let short = order_short scenario (valid_is_sound scenario c.requires) in
+    omega arith
