@@ -287,6 +287,7 @@ told_bad_turn_where k words before now told text c entry actor fits left reads b
   where
     no_run : (d : Scenario) → Reads text d → IsDefined d (order_of d) → ⊥
     no_run d other defined = bad_or_run c entry actor bad (subst (λ (e : Scenario). IsDefined e (order_of e)) (same_scenario text d c other reads) defined)
+
     go : (answer : Answer) → k ≡ status_of answer → Explains answer words before now → (k ≡ 8) ⊎ ((k ≡ 5) ⊎ (k ≡ 7))
     go answers.Done is explains = let said = if_some _ before.left text left explains.1 in absurd (no_run said.1.0 said.1.1 said.1.2.0)
     go answers.Words is explains = absurd (false≢true (sym explains.0 ∙ fits))
@@ -301,6 +302,7 @@ told_complete k words before now told text c fits left reads defined no_read no_
   where
     no_bad : (d : Scenario) (entry actor : ℕ) → Reads text d → IsFirstBad (opening d) (order_of d) entry actor → ⊥
     no_bad d entry actor other bad = bad_or_run d entry actor bad (subst (λ (e : Scenario). IsDefined e (order_of e)) (same_scenario text c d reads other) defined)
+
     go : (answer : Answer) → k ≡ status_of answer → Explains answer words before now → (k ≡ 0) ⊎ (k ≡ 7)
     go answers.Done is explains = inl is
     go answers.Words is explains = absurd (false≢true (sym explains.0 ∙ fits))

@@ -54,7 +54,7 @@ pub opening_has_room : (c : Scenario) (m : State) (journal : Entries) (attempts 
 unfolding attempts_of
 opening_has_room c m journal attempts opens counted empty =
     subst (λ (j : Entries). HasRoom m j) (sym empty) (subst (λ (k : State). HasRoom k (record { list = []; room = 32 * attempts })) (sym opens)
-      (record { bounded = opening_are c; room = let most = opening_room c in omega (arith, most, counted) }))
+    (record { bounded = opening_are c; room = let most = opening_room c in omega (arith, most, counted) }))
 
 -- the schedule of a sound scenario is short
 pub order_short : (c : Scenario) → IsSound c → length (turns_spell c.order) ≤ 262144

@@ -118,7 +118,7 @@ pub first_bad : (m n : State) (s front rest : List ℕ) (count made actor entry 
 first_bad m n s front rest count made actor entry before now whole few place plays bad =
     let spot : entry + made ≡ length front + made = ap (λ (k : ℕ). k + made) place in
     let front_is : take (entry + made) s ≡ front ++ replicate made actor =
-      (λ i. take (spot i) (whole i)) ∙ take_behind front (replicate count actor ++ rest) made ∙ ap (λ (l : List ℕ). front ++ l) (take_copies count made actor rest few) in
+    (λ i. take (spot i) (whole i)) ∙ take_behind front (replicate count actor ++ rest) made ∙ ap (λ (l : List ℕ). front ++ l) (take_copies count made actor rest few) in
     record {
       named = (λ i. slice_get (whole i) (spot i)) ∙ get_behind front (replicate count actor ++ rest) made ∙ get_copy count made actor rest few;
       defined = subst (λ (l : List ℕ). IsDefinedFrom m l) (sym front_is) plays.defined;

@@ -34,6 +34,7 @@ abbrev pub FailsRow : {A : Type 0} → LineFault → Result A Reason → Type 0
 FailsRow (Refused reason) answer = answer ≡ Err reason
 FailsRow (Limit quantity count) answer = ⊥
 FailsRow Memory answer = Unit {0}
+
 abbrev pub GivesTurns : Result (List Turn) LineFault → Result (List Turn) Reason → Type 0
 GivesTurns (Ok turns) answer = answer ≡ Ok turns
 GivesTurns (Err fault) answer = FailsRow fault answer
@@ -43,6 +44,7 @@ abbrev pub FailsAt : ScenarioFault → Result Scenario (ℕ × Fault) → Type 0
 FailsAt (faults.Refused line reason) answer = answer ≡ Err (line, refused reason)
 FailsAt (faults.Limit quantity count) answer = (line : ℕ) × (answer ≡ Err (line, passes quantity count))
 FailsAt (faults.Memory error) answer = Unit {0}
+
 abbrev pub Says : Result Scenario ScenarioFault → Result Scenario (ℕ × Fault) → Type 0
 Says (Ok scenario) answer = answer ≡ Ok scenario
 Says (Err fault) answer = FailsAt fault answer

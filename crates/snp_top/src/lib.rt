@@ -10,6 +10,5 @@ pub mod run_journal;
 pub mod scenario_text;
 pub mod schedule;
 pub mod script_text;
-
 #[cfg(test)]
 mod tests;

@@ -5,11 +5,9 @@ ghost use Rattle.snp_top.specs.Answers.{OneAnswer, SomeAnswer};
 /// Of a text at most one thing can be said: one scenario, one line with one reason, or one limit with one count.
 pub fn one_answer()
     ensures { OneAnswer }
-{
-}
+{}
 
 /// Of each text one of these can be said.
 pub fn some_answer()
     ensures { SomeAnswer }
-{
-}
+{}

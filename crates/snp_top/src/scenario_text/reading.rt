@@ -1,7 +1,14 @@
 ghost use Rattle.std.specs.Prelude.{◌≡◌, ◌==◌, ◌||◌, ◌&&◌, length, slice_index, nat_le, not, bytes_eq};
 ghost use Rattle.snp_model.specs.Lines.{word, is_row};
 ghost use Rattle.snp_model.specs.ScenarioLines.{
-    has_no, before_orders, before_actors, before_words, before_pages, first_scenario, version_row, is_order_row
+  has_no,
+  before_orders,
+  before_actors,
+  before_words,
+  before_pages,
+  first_scenario,
+  version_row,
+  is_order_row,
 };
 ghost use Rattle.snp_model.specs.Reading.{add_words, fit_words, fit_line, fit, is_passed_over, by_rule, nothing, reading, closed};
 ghost use Rattle.snp_top.specs.Steps.{made_of, Gives};

@@ -2,12 +2,31 @@ ghost use Rattle.std.specs.Prelude.{◌≡◌, ℕ, ◌+◌, ◌≤◌, ◌<◌,
 ghost use Rattle.std.specs.List.{list_all, list_any, range_with_len};
 ghost use Rattle.snp_model.specs.Lines.{is_hex_digit};
 ghost use Rattle.snp_model.specs.ScenarioLines.{
-    frames_of, version_row, regions_row, next_number, opening, key_byte, key_of, has_asid, guest_row, is_declared, is_opened,
-    page_size, validity, collide, apart, page_row, word_row, cpu_row, host_row, turn_from, turn_of
+  frames_of,
+  version_row,
+  regions_row,
+  next_number,
+  opening,
+  key_byte,
+  key_of,
+  has_asid,
+  guest_row,
+  is_declared,
+  is_opened,
+  page_size,
+  validity,
+  collide,
+  apart,
+  page_row,
+  word_row,
+  cpu_row,
+  host_row,
+  turn_from,
+  turn_of,
 };
 
 use crate::script_text::number::{
-    all_hex, digit_value, is_word, read_below, read_decimal, read_fixed, read_number, read_ranged
+    all_hex, digit_value, is_word, read_below, read_decimal, read_fixed, read_number, read_ranged,
 };
 use crate::script_text::words::{Words, cut};
 use snp_model::{GuestSpec, PageSize, PageSpec, Paging, Reason, Role, Scenario, Turn, WordSpec};

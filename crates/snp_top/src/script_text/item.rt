@@ -1,6 +1,13 @@
 ghost use Rattle.std.specs.Prelude.{◌≡◌, length};
 ghost use Rattle.snp_model.specs.ItemLines.{
-    once, cpu_load_row, cpu_store_row, cpu_item, host_store_row, host_item, item_words, item_line
+  once,
+  cpu_load_row,
+  cpu_store_row,
+  cpu_item,
+  host_store_row,
+  host_item,
+  item_words,
+  item_line,
 };
 
 use crate::script_text::number::{multiple, read_below, read_number};

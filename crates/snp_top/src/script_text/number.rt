@@ -1,8 +1,24 @@
 ghost use Rattle.std.specs.Prelude.{◌≡◌, ℕ, ◌≤◌, ◌<◌, ◌+◌, ◌*◌, ◌%◌, bytes_eq, length, IfOk, IsTrue};
 ghost use Rattle.std.specs.List.{list_all};
 ghost use Rattle.snp_model.specs.Lines.{
-    require, is_decimal_digit, is_hex_digit, digit_value, is_decimal, decimal_of, in_word, value_after, is_hex, hex_of, is_prefixed, number_of,
-    decimal, number, fixed, ranged, below, multiple
+  require,
+  is_decimal_digit,
+  is_hex_digit,
+  digit_value,
+  is_decimal,
+  decimal_of,
+  in_word,
+  value_after,
+  is_hex,
+  hex_of,
+  is_prefixed,
+  number_of,
+  decimal,
+  number,
+  fixed,
+  ranged,
+  below,
+  multiple,
 };
 
 use snp_model::Reason;

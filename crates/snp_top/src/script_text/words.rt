@@ -1,5 +1,24 @@
 ghost use Rattle.std.specs.Prelude.{
-    ◌≡◌, ℕ, true, false, ◌+◌, ◌<◌, ◌≤◌, List, [], ◌∷◌, length, take, map, position, slice_index_or, ◌==◌, MatchOption, IfSome, Some, None
+  ◌≡◌,
+  ℕ,
+  true,
+  false,
+  ◌+◌,
+  ◌<◌,
+  ◌≤◌,
+  List,
+  [],
+  ◌∷◌,
+  length,
+  take,
+  map,
+  position,
+  slice_index_or,
+  ◌==◌,
+  MatchOption,
+  IfSome,
+  Some,
+  None,
 };
 ghost use Rattle.std.specs.List.{list_all};
 ghost use Rattle.snp_model.specs.Lines.{parts_at, cut_at, words_of, word, most_words, is_row, is_printable, is_plain};

@@ -149,4 +149,3 @@ returns-clause-complete g c =
     let words : List (List ℕ) = map string_bytes c.args.words.now.items in
     let told : Told c.status.result words before now = record { answer = c.carry_out.result; status = c.status.ensures; explains = c.carry_out.ensures } in
     told_complete c.status.result words before now told
-

@@ -21,7 +21,7 @@ overflow_add-entry c =
     let k = c.turns.turn-index in
     let turn = get_or order k no_turn in
     let lengths : length (turns_spell (take (k + 1) order)) ≡ length (turns_spell (take k order)) + turn.count =
-      ap length (spell_more order k no_turn c.turns-test.true) ∙ length-append (turns_spell (take k order)) (replicate turn.count turn.actor) ∙ ap (λ (n : ℕ). length (turns_spell (take k order)) + n) (length-replicate turn.count turn.actor) in
+    ap length (spell_more order k no_turn c.turns-test.true) ∙ length-append (turns_spell (take k order)) (replicate turn.count turn.actor) ∙ ap (λ (n : ℕ). length (turns_spell (take k order)) + n) (length-replicate turn.count turn.actor) in
     let short = spell_short order (k + 1) in
     let most = c.requires.short in
     let entries = c.turns.invariant.entries in
@@ -33,7 +33,7 @@ overflow_add-result c =
     let k = c.turns.turn-index in
     let turn = get_or order k no_turn in
     let lengths : length (turns_spell (take (k + 1) order)) ≡ length (turns_spell (take k order)) + turn.count =
-      ap length (spell_more order k no_turn c.turns-test.true) ∙ length-append (turns_spell (take k order)) (replicate turn.count turn.actor) ∙ ap (λ (n : ℕ). length (turns_spell (take k order)) + n) (length-replicate turn.count turn.actor) in
+    ap length (spell_more order k no_turn c.turns-test.true) ∙ length-append (turns_spell (take k order)) (replicate turn.count turn.actor) ∙ ap (λ (n : ℕ). length (turns_spell (take k order)) + n) (length-replicate turn.count turn.actor) in
     let short = spell_short order (k + 1) in
     let most = c.requires.short in
     let entries = c.turns.invariant.entries in

@@ -1,0 +1,44 @@
+//! The program: `snp replay < SCENARIO`.
+#![tactic(auto)]
+
+use snp_top::batch::snp_batch;
+use snp_top::outside_port::{ReaderSource, WriterSink};
+use std::io::{BufWriter, Read, Write};
+use std::process::ExitCode;
+use std::{env, io};
+
+/// Where the runtime doesn't give the words or a buffer for the output.
+const UNSTARTED: u8 = 1;
+
+/// Where the output couldn't be written.
+const UNWRITTEN: u8 = 6;
+
+/// How many bytes of output are written at a time.
+const PIECE: usize = 65_536;
+
+fn main(rt: HostRuntime) -> ExitCode {
+    let Ok(words) = command_words(&rt) else {
+        return ExitCode::from(UNSTARTED);
+    };
+    let Ok(output) = BufWriter::with_capacity(rt.alloc(), PIECE, rt.stdout()) else {
+        return ExitCode::from(UNSTARTED);
+    };
+    let mut source = ReaderSource::new(rt.stdin());
+    let mut sink = WriterSink::new(output);
+    let status = snp_batch(rt.alloc(), &words, &mut source, &mut sink);
+    let flushed = sink.flush();
+    ExitCode::from(if status == 0 && flushed.is_err() {
+        UNWRITTEN
+    } else {
+        status
+    })
+}
+
+// The words after the program's name.
+fn command_words(rt: &HostRuntime) -> io::Result<Vec<String>> {
+    let mut words = Vec::new(rt.alloc());
+    for word in env::args(rt)?.skip(1) {
+        words.push(word)?;
+    }
+    Ok(words)
+}
