@@ -1,5 +1,5 @@
 -- What the program's answers tell, clause by clause.
-use Rattle.std.proofs.Common.{◌≡◌, ℕ, ◌⊎◌, ◌↔◌, Bool, true, false, List, [], refl, sym, ap, ◌∙◌, subst, arith, inl, inr, zero, suc, ◌∷◌, take}
+use Rattle.std.proofs.Common.{◌≡◌, ℕ, ◌⊎◌, ◌↔◌, true, false, List, [], sym, ◌∙◌, subst, arith, inl, inr, zero, suc, ◌∷◌, take}
 use Rattle.std.proofs.lemmas.Bool.{false≢true}
 use Rattle.std.specs.Prelude.{slice_get}
 use Rattle.snp_model.specs.Run.{IsDefinedFrom, state_from}
@@ -9,13 +9,13 @@ use Rattle.snp_top.specs.declared.schedule.BadTurn.{BadTurn}
 use Rattle.std.specs.Prelude.{codes, Option, None, Some, IfSome, Result, Ok, Err}
 use Rattle.snp_model.specs.declared.scenario.Scenario.{Scenario}
 use Rattle.snp_model.specs.CommandLine.{are_words}
-use Rattle.snp_model.specs.Ending.{lines_of, report_of}
+use Rattle.snp_model.specs.Ending.{report_of}
 use Rattle.snp_model.specs.GuestMemory.{AreLegal}
 use Rattle.snp_model.specs.Opening.{opening}
 use Rattle.snp_model.specs.Outside.{Adds, AddsPrefix, Rose}
 use Rattle.snp_model.specs.Reading.{Reads, Valid, order_of}
 use Rattle.snp_model.specs.Report.{report_text}
-use Rattle.snp_model.specs.Run.{IsDefined, IsOrdered, run_of, state_after}
+use Rattle.snp_model.specs.Run.{IsDefined, IsOrdered}
 use Rattle.snp_model.proofs.GuestMemoryLaws.{guests_are_legal}
 use Rattle.snp_model.proofs.OrderedLaws.{run_is_ordered}
 use Rattle.snp_model.proofs.SoundLaws.{valid_is_sound}
@@ -25,7 +25,7 @@ use Rattle.snp_top.specs.declared.replay.Played.{Played}
 use Rattle.snp_top.specs.declared.replay.ReplayFault.{ReplayFault}
 use Rattle.snp_top.specs.declared.replay.ReplayFault.TheVariants as faults
 use Rattle.snp_top.specs.Answers.{says}
-use Rattle.snp_top.specs.Batch.{Explains, ForScenario, IsStatus, Outside, ReportsTo, SaysBadTurn, SaysCutReport, SaysOne, SaysRun, Wrote, WritesLine, answer_of, line_of, schedule_line, status_of}
+use Rattle.snp_top.specs.Batch.{Explains, ForScenario, IsStatus, Outside, ReportsTo, SaysBadTurn, SaysCutReport, SaysOne, SaysRun, Wrote, answer_of, line_of, status_of}
 use Rattle.snp_top.specs.Replays.{HasFailed, IsPlayed, IsRead, ReplaysTo, SaysNone}
 use Rattle.snp_top.specs.Schedule.{IsFirstBad}
 use Rattle.snp_top.proofs.FindingLaws.{one_finding}

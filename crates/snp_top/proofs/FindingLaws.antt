@@ -1,20 +1,19 @@
 -- Of each text one thing can be said: what reading it line by line finds.
-use Rattle.std.proofs.Common.{◌≡◌, ℕ, ◌+◌, ◌<◌, ◌≤◌, nat_le, Bool, true, false, cond, ◌⊎◌, List, [], ◌∷◌, ◌++◌, length, Result, Ok, Err, Some, None, refl, sym, ap, subst, ◌∙◌, inl, inr, append_assoc, arith}
+use Rattle.std.proofs.Common.{◌≡◌, ℕ, ◌+◌, ◌<◌, ◌≤◌, nat_le, cond, List, [], ◌∷◌, ◌++◌, length, Result, Ok, Err, Some, refl, sym, ap, subst, ◌∙◌, inl, inr, append_assoc, arith}
 use Rattle.std.proofs.lemmas.Bool.Decides.{nat_tests}
 use Rattle.std.proofs.lemmas.Bool.{cases_lt}
 use Rattle.snp_model.specs.declared.scenario.Scenario.{Scenario}
 use Rattle.snp_model.specs.declared.reading.Reason.{Reason}
-use Rattle.snp_model.specs.declared.reading.Reason.TheVariants.{Cut, End}
 use Rattle.snp_model.specs.declared.reading.Quantity.TheVariants.{Bytes}
-use Rattle.snp_model.specs.Lines.{parts_at, ◌>>=◌}
-use Rattle.snp_model.specs.Reading.{Made, nothing, reading, closed, Fault, refused, passes, fit, Makes, ending_of, IsText, Reads, StopsAt, EndsAt, Refuses, Passes, IsTooLong, Valid, most_bytes}
+use Rattle.snp_model.specs.Lines.{parts_at}
+use Rattle.snp_model.specs.Reading.{Made, nothing, reading, closed, Fault, refused, passes, fit, Makes, ending_of, Reads, StopsAt, EndsAt, most_bytes}
 use Rattle.snp_top.specs.declared.scenario_text.fault.ScenarioFault.{ScenarioFault}
 use Rattle.snp_top.specs.declared.scenario_text.fault.ScenarioFault.TheVariants as faults
-use Rattle.snp_top.specs.Texts.{at_line, end_of, read_parts, read_text}
+use Rattle.snp_top.specs.Texts.{end_of, read_parts, read_text}
 use Rattle.snp_top.specs.Steps.{Says}
 use Rattle.snp_top.specs.Answers.{Answers, Finding, says, wrong, too_much, Finds, OneAnswer, SomeAnswer}
 use Rattle.snp_top.proofs.TextLaws.{some_part}
-use Rattle.snp_top.proofs.ReadingLaws.{Stops, Ends, Closes, Said, read_parts-said}
+use Rattle.snp_top.proofs.ReadingLaws.{Said, read_parts-said}
 
 -- what is read of a text is said by its parts
 read_text-said : (text : List ℕ) → Said 1 nothing (parts_at 10 text) (read_text text)

@@ -1,11 +1,11 @@
 -- Reading a text line by line finds what the text says, or the first thing that is wrong with it.
-use Rattle.std.proofs.Common.{◌≡◌, ℕ, ◌+◌, ◌<◌, ◌≤◌, ◌⊎◌, List, [], ◌∷◌, ◌++◌, length, Result, Ok, Err, Some, None, refl, sym, ap, ◌∙◌, inl, inr, arith}
+use Rattle.std.proofs.Common.{◌≡◌, ℕ, ◌+◌, ◌⊎◌, List, [], ◌∷◌, ◌++◌, length, Result, Ok, Err, Some, refl, ap, inl, inr, arith}
 use Rattle.snp_model.specs.declared.scenario.Scenario.{Scenario}
 use Rattle.snp_model.specs.declared.reading.Reason.{Reason}
 use Rattle.snp_model.specs.declared.reading.Reason.TheVariants.{Cut, End}
-use Rattle.snp_model.specs.Lines.{parts_at, ◌>>=◌}
-use Rattle.snp_model.specs.Reading.{Made, nothing, reading, closed, Fault, refused, passes, fit, Makes, ending_of, IsText, Reads, StopsAt, EndsAt, Refuses, Passes, IsTooLong, Valid, most_bytes}
-use Rattle.snp_top.specs.Texts.{at_line, end_of, read_parts, read_text}
+use Rattle.snp_model.specs.Lines.{◌>>=◌}
+use Rattle.snp_model.specs.Reading.{Made, nothing, reading, closed, Fault, refused, fit, Makes, ending_of}
+use Rattle.snp_top.specs.Texts.{at_line, end_of, read_parts}
 
 -- a line of these parts is the first that doesn't fit, where the first part is line n
 pub record Stops (n : ℕ) (made : Made) (parts : List (List ℕ)) (m : ℕ) (fault : Fault) : Type 0 where

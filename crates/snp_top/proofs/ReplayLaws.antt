@@ -1,6 +1,5 @@
 -- What running a scenario makes of its machine, its journal and its guests.
 use Rattle.std.proofs.Common.{◌≡◌, ℕ, zero, suc, ◌+◌, ◌*◌, ◌<◌, ◌≤◌, List, [], ◌∷◌, ◌++◌, length, drop, refl, sym, ap, ◌∙◌, subst, arith, append_assoc}
-use Rattle.snp_model.specs.declared.event.Event.{Event}
 use Rattle.snp_model.specs.declared.report.GuestLine.{GuestLine}
 use Rattle.snp_model.specs.declared.scenario.GuestSpec.{GuestSpec}
 use Rattle.snp_model.specs.declared.scenario.Scenario.{Scenario}
@@ -9,8 +8,7 @@ use Rattle.snp_model.specs.Ending.{guest_line, lines_from}
 use Rattle.snp_model.specs.Journal.{Entries}
 use Rattle.snp_model.specs.Opening.{opening}
 use Rattle.snp_model.specs.Reading.{turns_spell, order_of}
-use Rattle.snp_model.specs.Room.{AreBounded, room_of}
-use Rattle.snp_model.specs.Run.{IsDefined, IsDefinedFrom, run_from, state_from}
+use Rattle.snp_model.specs.Run.{state_from}
 use Rattle.snp_model.specs.Sound.{IsSound}
 use Rattle.snp_model.specs.State.{Contexts, State}
 use Rattle.snp_model.specs.Step.{after}
@@ -24,7 +22,7 @@ use Rattle.snp_model.specs.Reading.{Reads, Refuses, Passes}
 use Rattle.snp_top.specs.Answers.{Finding, says, wrong, too_much, Finds}
 use Rattle.snp_top.specs.Replays.{SaysNone}
 use Rattle.snp_top.proofs.FindingLaws.{one_finding}
-use Rattle.snp_top.specs.Schedule.{HasRoom, Plays}
+use Rattle.snp_top.specs.Schedule.{HasRoom}
 
 -- one more guest
 pub lines_more : (contexts : Contexts) (guests : List GuestSpec) (k first : ℕ) → k < length guests → lines_from contexts first (drop k guests) ≡ guest_line first (contexts first) ∷ lines_from contexts (first + 1) (drop (k + 1) guests)

@@ -1,18 +1,17 @@
 -- Schedules that are played event by event and turn by turn.
-use Rattle.std.proofs.Common.{◌≡◌, ℕ, zero, suc, ◌+◌, ◌-◌, ◌<◌, ◌≤◌, List, [], ◌∷◌, ◌++◌, length, take, drop, replicate, Option, Some, refl, sym, ap, ◌∙◌, subst, arith, append_assoc, zero-add}
+use Rattle.std.proofs.Common.{◌≡◌, ℕ, zero, suc, ◌+◌, ◌<◌, ◌≤◌, List, [], ◌∷◌, ◌++◌, length, take, drop, replicate, Some, refl, sym, ap, ◌∙◌, subst, arith, append_assoc, zero-add}
 use Rattle.std.proofs.Math.ListN.{get_or}
-use Rattle.std.proofs.lemmas.List.{length-append, length-replicate, append-nil}
+use Rattle.std.proofs.lemmas.List.{length-append, append-nil}
 use Rattle.std.specs.Prelude.{slice_get}
 use Rattle.snp_model.specs.declared.event.Event.{Event}
 use Rattle.snp_model.specs.declared.scenario.Turn.{Turn}
 use Rattle.snp_model.specs.Journal.{Entries}
 use Rattle.snp_model.specs.Reading.{turns_spell}
-use Rattle.snp_model.specs.Room.{AreBounded, room_of}
 use Rattle.snp_model.specs.Run.{IsDefinedFrom, run_from, state_from}
 use Rattle.snp_model.specs.State.{State, IsUnfinished}
 use Rattle.snp_model.specs.Step.{event_of, after}
 use Rattle.snp_model.proofs.RoomLaws.{step_lowers}
-use Rattle.snp_model.proofs.RunLaws.{run_append, state_append, defined_append, run_none, state_none, defined_none, run_push, state_push, defined_push, defined_first, unfinished_at_push}
+use Rattle.snp_model.proofs.RunLaws.{run_append, state_append, defined_append, run_none, state_none, defined_none, run_push, state_push, defined_push}
 use Rattle.snp_top.specs.Schedule.{HasRoom, IsFirstBad, Plays}
 
 -- an unfinished actor's event has room

@@ -1,15 +1,15 @@
 -- The steps of reading a text line by line.
-use Rattle.std.proofs.Common.{◌≡◌, ℕ, ◌+◌, List, [], ◌∷◌, length, Result, Ok, Err, refl, sym, ap, subst, ◌∙◌, arith}
+use Rattle.std.proofs.Common.{◌≡◌, ℕ, ◌+◌, List, [], ◌∷◌, length, Result, Ok, Err, refl, sym, subst, arith}
 use Rattle.std.specs.Prelude.{◌==◌}
 use Rattle.std.proofs.lemmas.List.Splits.{length-slice_split}
 use Rattle.snp_model.specs.declared.scenario.Scenario.{Scenario}
-use Rattle.snp_model.specs.Lines.{parts_at, ◌>>=◌}
+use Rattle.snp_model.specs.Lines.{parts_at}
 use Rattle.snp_model.specs.Reading.{Made, Fault, refused, passes, fit}
 use Rattle.snp_top.specs.declared.scenario_text.fault.ScenarioFault.{ScenarioFault}
 use Rattle.snp_top.specs.declared.scenario_text.fault.ScenarioFault.TheVariants as faults
 use Rattle.snp_top.specs.declared.scenario_text.fault.LineFault.{LineFault}
 use Rattle.snp_top.specs.declared.scenario_text.fault.LineFault.TheVariants.{Refused, Limit, Memory}
-use Rattle.snp_top.specs.Texts.{at_line, end_of, read_parts}
+use Rattle.snp_top.specs.Texts.{end_of, read_parts}
 use Rattle.snp_top.specs.Steps.{Fails, FailsAt, SaysFault}
 
 -- bytes have at least one part

@@ -1,13 +1,12 @@
 -- What the program answers, and what it then has read and written. This project's own.
-use Rattle.std.specs.Prelude.{◌≡◌, ℕ, ◌<◌, ◌⊎◌, ◌++◌, Bool, true, false, List, [], Option, Some, IfSome, codes, decimal}
+use Rattle.std.specs.Prelude.{◌≡◌, ℕ, ◌⊎◌, ◌++◌, true, false, List, [], Option, Some, IfSome, codes, decimal}
 use Rattle.snp_model.specs.declared.scenario.Scenario.{Scenario}
 use Rattle.snp_model.specs.CommandLine.{are_words}
 use Rattle.snp_model.specs.Ending.{report_of}
-use Rattle.snp_model.specs.GuestMemory.{AreLegal}
 use Rattle.snp_model.specs.Opening.{opening}
 use Rattle.snp_model.specs.Outside.{Adds, AddsPrefix, Rose}
 use Rattle.snp_model.specs.Reading.{Reads, order_of}
-use Rattle.snp_model.specs.Run.{IsDefined, IsOrdered}
+use Rattle.snp_model.specs.Run.{IsDefined}
 use Rattle.snp_top.specs.declared.batch.Answer.{Answer}
 use Rattle.snp_top.specs.declared.batch.Answer.TheVariants as answers
 use Rattle.snp_top.specs.declared.replay.ReplayFault.{ReplayFault}

@@ -1,5 +1,5 @@
 -- What playing a schedule makes of a machine and its journal. This project's own.
-use Rattle.std.specs.Prelude.{◌≡◌, ℕ, ◌+◌, ◌≤◌, ◌++◌, List, length, take, slice_get, Option, Some}
+use Rattle.std.specs.Prelude.{◌≡◌, ℕ, ◌+◌, ◌≤◌, ◌++◌, List, length, take, slice_get, Some}
 use Rattle.snp_model.specs.Journal.{Entries}
 use Rattle.snp_model.specs.Room.{AreBounded, room_of}
 use Rattle.snp_model.specs.Run.{IsDefinedFrom, run_from, state_from}

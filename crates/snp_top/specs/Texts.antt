@@ -1,9 +1,9 @@
 -- What a text says, read line by line from the first.
-use Rattle.std.specs.Prelude.{◌≡◌, ℕ, ◌+◌, List, [], ◌∷◌, Result, Ok, Err}
+use Rattle.std.specs.Prelude.{ℕ, ◌+◌, List, [], ◌∷◌, Result, Ok, Err}
 use Rattle.snp_model.specs.declared.scenario.Scenario.{Scenario}
 use Rattle.snp_model.specs.declared.reading.Reason.TheVariants.{Cut, End}
 use Rattle.snp_model.specs.Lines.{parts_at, ◌>>=◌}
-use Rattle.snp_model.specs.Reading.{Made, nothing, reading, closed, Fault, refused, fit}
+use Rattle.snp_model.specs.Reading.{Made, nothing, closed, Fault, refused, fit}
 
 -- a result, or a fault at line n
 abbrev pub at_line : {A : Type 0} → ℕ → Result A Fault → Result A (ℕ × Fault)

@@ -1,5 +1,11 @@
 //! Texts that no clause spells out, and failures outside in mid-stream.
-use super::*;
+use crate::batch::snp_batch;
+use crate::input::{InputFault, MOST_BYTES, read_text};
+use crate::outside_port::{
+    Failed, MemorySink, MemorySource, ReaderSource, Sink, SinkFault, Source, WriterSink, write_all,
+};
+use crate::report_text::{write_line, write_report};
+use crate::run_journal::Journal;
 use snp_model::{Deed, Event, GuestLine, GuestState, Outcome, PageSize};
 use std::process::Abort;
 use std::test::Fail;
@@ -286,5 +292,62 @@ fn adapters(rt: HostRuntime) -> Result<(), Fail> {
     let mut sink = WriterSink::new(Vec::new(alloc));
     assert!(rt; write_all(&mut sink, text.as_slice()).is_ok());
     assert!(rt; sink.flush().is_ok());
+    Ok(())
+}
+
+const SMALLEST: &[u8] = b"snp 1
+regions 1
+guest 1 opened asid 1 iv 0 key 0000000000000000000000000000000000000000000000000000000000000000
+page 8 of 1 at 0 4k valid 0 0 0
+word 1 0 0x2007
+word 2 0 0x3007
+word 3 0 0x4007
+word 4 0 0x8007
+actor 1 cpu 1 vmpl 0 npt 1 flat
+store 0x10 5
+load 0x10
+order 1*12
+end
+";
+
+const ITS_REPORT: &[u8] = b"snp-report 1
+0 1 0.0 begin
+1 1 0.0 npt 1:0 0x2007
+2 1 0.0 npt 2:0 0x3007
+3 1 0.0 npt 3:0 0x4007
+4 1 0.0 npt 4:0 0x8007
+5 1 0.0 data 0x0:2 8 p store
+6 1 1.0 begin
+7 1 1.0 npt 1:0 0x2007
+8 1 1.0 npt 2:0 0x3007
+9 1 1.0 npt 3:0 0x4007
+10 1 1.0 npt 4:0 0x8007
+11 1 1.0 data 0x0:2 8 p load 0x5
+order 1*12
+guest 1 running -
+end 12
+";
+
+// The smallest scenario where read and write of these numbers fail: the status and what is written.
+#[test]
+fn a_replay_and_its_failures(rt: HostRuntime) -> Result<(), Fail> {
+    let never = u32::MAX;
+    let line = b"error read\n";
+    for (read, write, room, status, written) in [
+        (never, never, 1000, 0, ITS_REPORT),
+        (0, never, 1000, 5, line.as_slice()),
+        (3, never, 1000, 5, line.as_slice()),
+        (never, 2, 1000, 6, &ITS_REPORT[..27]),
+        (never, never, 0, 6, b"".as_slice()),
+        (0, 0, 1000, 5, b"".as_slice()),
+    ] {
+        let alloc = rt.alloc();
+        let words = vec![in alloc; String::from_str(alloc, "replay")?]?;
+        let text = Vec::from_slice(alloc, SMALLEST)?;
+        let mut source = MemorySource::over(text, 7, vec![in alloc; read]?);
+        let mut sink = MemorySink::with_room(alloc, room, vec![in alloc; write]?)?;
+        assert_eq!(rt; snp_batch(alloc, &words, &mut source, &mut sink), status);
+        assert!(rt; sink.bytes() == written);
+    }
     Ok(())
 }

@@ -1,5 +1,4 @@
-use Rattle.std.proofs.Common.{◌≡◌, ◌≤◌, ◌<◌, length, map, true, arith, sym, ◌∙◌, subst, string_bytes}
-use Rattle.snp_model.specs.CommandLine.{are_words}
+use Rattle.std.proofs.Common.{map, arith, sym, ◌∙◌, string_bytes}
 use Rattle.snp_top.proofs.BatchLaws.{explains_report, explains_refusal}
 use Rattle.snp_top.proofs.batch.carry_out.Goals as goal
 

@@ -1,4 +1,4 @@
-use Rattle.std.proofs.Common.{◌≡◌, List, ℕ, map, string_bytes}
+use Rattle.std.proofs.Common.{List, ℕ, map, string_bytes}
 use Rattle.snp_top.specs.Batch.{Outside}
 use Rattle.snp_top.proofs.BatchLaws.{Told, status_is_one, told_bad_turn, told_bad_turn_where, told_complete, told_cut_report, told_failed_read, told_failed_read_line, told_failed_write, told_legal, told_memory_line, told_none, told_none_line, told_none_where, told_ordered, told_read, told_report, told_run, told_words, told_words_line}
 use Rattle.snp_top.proofs.batch.snp_batch.Goals as goal

@@ -1,4 +1,4 @@
-use Rattle.std.proofs.Common.{◌≡◌, ◌+◌, ◌≤◌, ◌<◌, [], ◌∷◌, length, vec_capacity, sym, subst, ap, ◌∙◌, arith, ℕ}
+use Rattle.std.proofs.Common.{◌+◌, ◌≤◌, ◌<◌, [], ◌∷◌, length, sym, subst, ap, ◌∙◌, arith, ℕ}
 use Rattle.std.proofs.lemmas.List.{length-append}
 use Rattle.machine_core.specs.Machine.{state_of}
 use Rattle.snp_model.specs.Ending.{lines_of}

@@ -1,10 +1,10 @@
-use Rattle.std.proofs.Common.{◌≡◌, ◌≤◌, ◌<◌, ◌+◌, ◌^◌, ◌++◌, ℕ, List, length, take, drop, replicate, refl, sym, ap, ◌∙◌, subst, arith}
+use Rattle.std.proofs.Common.{◌≡◌, ◌+◌, ℕ, List, length, take, drop, replicate, refl, sym, ap, ◌∙◌, subst, arith}
 use Rattle.std.proofs.Math.ListN.{get_or}
 use Rattle.std.proofs.lemmas.List.{length-append, length-replicate}
 use Rattle.machine_core.specs.Machine.{state_of}
 use Rattle.snp_model.specs.declared.scenario.Turn.{Turn}
 use Rattle.snp_model.specs.Reading.{turns_spell}
-use Rattle.snp_top.specs.Schedule.{HasRoom, IsFirstBad, Plays}
+use Rattle.snp_top.specs.Schedule.{Plays}
 use Rattle.snp_top.proofs.ScheduleLaws.{plays_none, plays_append, spell_more, spell_short, spell_at, first_bad}
 use Rattle.snp_top.proofs.schedule.play.Goals as goal
 

@@ -1,6 +1,5 @@
-use Rattle.std.proofs.Common.{◌≡◌, ℕ, ◌+◌, List, ◌∷◌, [], ◌++◌, replicate, sym, ap, ◌∙◌, subst, arith, add-one}
+use Rattle.std.proofs.Common.{replicate, add-one}
 use Rattle.machine_core.specs.Machine.{state_of}
-use Rattle.snp_top.specs.Schedule.{HasRoom, Plays}
 use Rattle.snp_top.proofs.ScheduleLaws.{room_left, room_more, plays_none, plays_more, replicate_push}
 use Rattle.snp_top.proofs.schedule.take_turn.Goals as goal
 

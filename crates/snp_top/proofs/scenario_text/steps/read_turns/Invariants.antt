@@ -1,4 +1,4 @@
-use Rattle.std.proofs.Common.{◌≡◌, ◌+◌, ◌≤◌, drop, length, []}
+use Rattle.std.proofs.Common.{◌≡◌, ◌+◌, drop, length, []}
 use Rattle.snp_model.specs.ScenarioLines.{turns_after}
 use Rattle.snp_top.proofs.scenario_text.steps.read_turns.Given as goal
 

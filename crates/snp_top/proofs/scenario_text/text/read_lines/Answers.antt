@@ -1,8 +1,7 @@
-use Rattle.std.proofs.Common.{◌≡◌, ◌+◌, ◌≤◌, ◌∷◌, [], length, Result, refl, sym, ap, subst, ◌∙◌, arith}
+use Rattle.std.proofs.Common.{Result, refl, sym, ap, subst, ◌∙◌, arith}
 use Rattle.snp_model.specs.declared.scenario.Scenario.{Scenario}
-use Rattle.snp_model.specs.Lines.{parts_at}
 use Rattle.snp_model.specs.Reading.{Fault, fit}
-use Rattle.snp_top.specs.Texts.{end_of, read_parts, read_text}
+use Rattle.snp_top.specs.Texts.{read_parts, read_text}
 use Rattle.snp_top.specs.Steps.{made_of, Says}
 use Rattle.snp_top.proofs.TextLaws.{step_line, stop_line, end_parts, fault_said}
 use Rattle.snp_top.proofs.scenario_text.text.read_lines.Goals as goal

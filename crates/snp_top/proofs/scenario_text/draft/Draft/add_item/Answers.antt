@@ -1,5 +1,4 @@
-use Rattle.std.proofs.Common.{◌≡◌, ◌≤◌, arith, sym, ◌∙◌, length}
-use Rattle.snp_model.specs.Attempts.{actors_attempts}
+use Rattle.std.proofs.Common.{arith}
 use Rattle.snp_top.proofs.StepLaws.{Grown, line_grows}
 use Rattle.snp_top.proofs.scenario_text.draft.Draft.add_item.Goals as goal
 
