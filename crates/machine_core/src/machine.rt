@@ -4,7 +4,7 @@ ghost use Rattle.snp_model.specs.Opening.{opening};
 ghost use Rattle.snp_model.specs.Reading.{Valid};
 ghost use Rattle.std.specs.Bool.{OnTrue, OnFalse};
 ghost use Rattle.snp_model.specs.State.{IsUnfinished};
-ghost use Rattle.snp_model.specs.Step.{event_of, after};
+ghost use Rattle.snp_model.specs.Step.{Step, event_of, after};
 ghost use Rattle.machine_core.specs.Machine.{state_of};
 
 use crate::actor::ActorState;
@@ -53,9 +53,11 @@ impl Machine {
         })
     }
 
-    /// Makes one event of an actor, numbered from 1. Takes no memory.
+    /// Makes one event of an actor, numbered from 1: the step of the tables, of which there is exactly one.
+    /// Takes no memory.
     pub fn step(&mut self, actor: u32) -> Event
         requires { IsUnfinished (state_of self.old) actor }
+        ensures step { Step (state_of self.old) actor (state_of self.new) result }
         ensures event { result ≡ event_of (state_of self.old) actor }
         ensures after { state_of self.new ≡ after (state_of self.old) actor }
     {

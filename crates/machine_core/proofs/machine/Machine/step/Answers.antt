@@ -30,3 +30,6 @@ returns-clause-after c =
     let makes = made inside.memory c.next_event-shown.new.memory inside.guests c.as_slice.result.now inside.actors.items c.args.actor c.index_mut-part.result.now c.next_event-shown.result unfinished c.index_mut-part.ensures.value c.as_slice.ensures c.next_event-shown.ensures.moves in
     after_is inside.memory c.next_event-shown.new.memory inside.guests inside.actors.items c.args.actor c.index_mut-part.result.now c.take_down.new.self c.next_event-shown.result makes (c.take_down.ensures.part (contents_of c.next_event-shown.new.memory inside.guests)) c.next_event-shown.ensures.frames
     ∙ ap (λ (m : MachineImage). after (state_of m) c.args.actor) c.self.view_is
+
+pub returns-clause-step : goal.returns-clause-step
+returns-clause-step c = record { unfinished = c.requires; becomes = returns-clause-after c; makes = returns-clause-event c }
