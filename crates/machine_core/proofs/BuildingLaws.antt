@@ -1,21 +1,11 @@
 -- The opening, as the machine's functions build it.
-use Rattle.std.proofs.Common.{◌≡◌, ℕ, ◌+◌, ◌-◌, zero, suc, true, false, List, [], ◌∷◌, length, map, refl, sym, ◌∙◌, arith}
+use Rattle.std.proofs.Common.{◌≡◌, ℕ, ◌+◌, true, false, List, [], ◌∷◌, length, refl, arith}
 use Rattle.std.proofs.Math.ListN.{get_or}
-use Rattle.std.specs.Prelude.{slice_get}
 use Rattle.snp_model.specs.declared.scenario.GuestSpec.{GuestSpec}
 use Rattle.snp_model.specs.declared.scenario.PageSpec.{PageSpec}
 use Rattle.snp_model.specs.declared.entry.RmpEntry.{RmpEntry}
 use Rattle.snp_model.specs.declared.entry.Kind.TheVariants.{Plain}
-use Rattle.snp_model.specs.Opening.{asid_of, opening_context, opening_contexts, page_facts}
-
-asid_at : (guests : List GuestSpec) (k : ℕ) → get_or (map (λ (spec : GuestSpec). spec.asid) guests) k 0 ≡ (opening_context (slice_get guests k)).asid
-unfolding opening_context
-asid_at [] k = refl
-asid_at (guest ∷ guests) zero = refl
-asid_at (guest ∷ guests) (suc k) = asid_at guests k
-
-pub asid_same : (guests : List GuestSpec) (guest : ℕ) → asid_of guests guest ≡ (opening_contexts guests guest).asid
-asid_same guests guest = asid_at guests (guest - 1)
+use Rattle.snp_model.specs.Opening.{asid_of, page_facts}
 
 three : (xs : List ℕ) → length xs ≡ 3 → get_or xs 0 0 ∷ get_or xs 1 0 ∷ get_or xs 2 0 ∷ [] ≡ xs
 three [] long = absurd (omega arith)
@@ -25,12 +15,11 @@ three (a ∷ b ∷ c ∷ []) long = refl
 three (a ∷ b ∷ c ∷ d ∷ xs) long = absurd (omega arith)
 
 -- the entry of a 4 KB page, field by field
-pub page_facts_is : (guests : List GuestSpec) (page : PageSpec) (asid : ℕ) → asid ≡ (opening_contexts guests page.guest).asid → length page.perms ≡ 3
+pub page_facts_is : (guests : List GuestSpec) (page : PageSpec) (asid : ℕ) → asid ≡ asid_of guests page.guest → length page.perms ≡ 3
     → let entry : RmpEntry = record { assigned = true; size = page.size; immutable = false; gpn = page.gpn; asid = asid; vmsa = false; validated = page.valid; perms = 15 ∷ get_or page.perms 0 0 ∷ get_or page.perms 1 0 ∷ get_or page.perms 2 0 ∷ []; kind = Plain } in
     entry ≡ page_facts guests page 0
 unfolding page_facts
 page_facts_is guests page asid asid_is long =
-    let asids : asid ≡ asid_of guests page.guest = asid_is ∙ sym (asid_same guests page.guest) in
     let gpns : page.gpn ≡ page.gpn + 0 = omega arith in
     let permissions = three page.perms long in
-    λ i. record { assigned = true; size = page.size; immutable = false; gpn = gpns i; asid = asids i; vmsa = false; validated = page.valid; perms = 15 ∷ permissions i; kind = Plain }
+    λ i. record { assigned = true; size = page.size; immutable = false; gpn = gpns i; asid = asid_is i; vmsa = false; validated = page.valid; perms = 15 ∷ permissions i; kind = Plain }

@@ -1,4 +1,6 @@
+pub mod BaysLaws
 pub mod BuildingLaws
 pub mod MachineLaws
 pub mod OpeningLaws
+pub mod TouchLaws
 pub mod WalkLaws

@@ -1,4 +1,5 @@
+pub mod Bays
 pub mod Machine
-pub mod Memory
 pub mod Moves
+pub mod OwnLaws
 pub mod Walks

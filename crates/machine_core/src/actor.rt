@@ -63,6 +63,13 @@ impl ActorState {
         self.deeds.as_slice()
     }
 
+    /// The last outcome that isn't of a skip.
+    pub fn last(&self) -> Option<Outcome>
+        ensures { result ≡ self.now.last }
+    {
+        self.last
+    }
+
     /// Whether the actor has passed its last item.
     pub fn is_finished(&self) -> bool
         ensures { result ≡ nat_le (length self.now.script) self.now.item }

@@ -1,12 +1,16 @@
-ghost use Rattle.std.specs.Prelude.{◌≡◌, ◌^◌, ◌<◌, length, map, IfOk};
+ghost use Rattle.std.specs.Prelude.{◌≡◌, ◌*◌, ◌^◌, ◌<◌, length, map, replicate, IfOk};
 ghost use Rattle.std.specs.List.{AllByRecursion};
+ghost use Rattle.snp_model.specs.Facts.{free_entry};
 ghost use Rattle.snp_model.specs.Opening.{opening_part, page_facts, facts_from, words_from};
 ghost use Rattle.snp_model.specs.Sound.{IsPage, IsWord};
-ghost use Rattle.machine_core.specs.Memory.{frames_of, facts_of, words_of};
+ghost use Rattle.snp_model.specs.State.{zero_words};
+ghost use Rattle.machine_core.specs.Bays.{facts_of, free_bay, own_bays, words_of};
 
 use crate::actor::ActorState;
+use crate::bay::Bay;
+use crate::changes::{set_entry, set_word};
 use crate::cpu::asid_of;
-use crate::memory::Memory;
+use crate::parts::OwnParts;
 use snp_model::{Actor, GuestSpec, Kind, PageSpec, RmpEntry, WordSpec};
 use std::alloc::{AllocError, Global};
 
@@ -14,7 +18,8 @@ use std::alloc::{AllocError, Global};
 fn page_entry(guests: &[GuestSpec], page: &PageSpec) -> RmpEntry
     requires guest { 0 < page.now.guest }
     requires perms { length page.now.perms ≡ 3 }
-    ensures { result ≡ page_facts guests.now page.now 0 }
+    ensures facts { result ≡ page_facts guests.now page.now 0 }
+    ensures size { result.size ≡ page.now.size }
 {
     RmpEntry {
         assigned: true,
@@ -29,28 +34,51 @@ fn page_entry(guests: &[GuestSpec], page: &PageSpec) -> RmpEntry
     }
 }
 
+// So many regions of memory, free and zero.
+fn free_bays(alloc: Global, regions: u32) -> Result<Vec<Bay>, AllocError>
+    ensures { IfOk result (λ bays. bays.items ≡ replicate regions free_bay) }
+{
+    let mut bays = Vec::new(alloc);
+    'regions: for _ in 0..regions {
+        bays.push(Bay::free(alloc)?)?;
+    }
+    Ok(bays)
+}
+
+/// Memory of so many regions, free and zero.
+pub fn free_parts(alloc: Global, regions: u32) -> Result<OwnParts, AllocError>
+    ensures facts { IfOk result (λ parts. facts_of (own_bays parts.bays.items) ≡ (λ f. free_entry)) }
+    ensures words { IfOk result (λ parts. words_of (own_bays parts.bays.items) ≡ (λ f. zero_words)) }
+    ensures regions { IfOk result (λ parts. length parts.bays.items ≡ regions) }
+{
+    Ok(OwnParts {
+        bays: free_bays(alloc, regions)?,
+    })
+}
+
 /// Sets the entries of the guests' pages.
 #[tactic(auto, unfolding(snp_model::specs::Opening::facts_from))]
-pub fn set_pages(memory: &mut Memory, guests: &[GuestSpec], pages: &[PageSpec])
-    requires { AllByRecursion (IsPage (frames_of memory.old) (length guests.now)) pages.now }
-    ensures facts { facts_of memory.new ≡ facts_from guests.now (facts_of memory.old) pages.now }
-    ensures words { memory.new.words ≡ memory.old.words }
+pub fn set_pages(parts: &mut OwnParts, guests: &[GuestSpec], pages: &[PageSpec])
+    requires { AllByRecursion (IsPage (512 * length parts.old.bays.items) (length guests.now)) pages.now }
+    ensures facts { facts_of (own_bays parts.new.bays.items) ≡ facts_from guests.now (facts_of (own_bays parts.old.bays.items)) pages.now }
+    ensures words { words_of (own_bays parts.new.bays.items) ≡ words_of (own_bays parts.old.bays.items) }
+    ensures regions { length parts.new.bays.items ≡ length parts.old.bays.items }
 {
     'pages: for page in pages {
-        memory.set_entry(page.frame, page_entry(guests, page));
+        set_entry(parts, page.frame, page_entry(guests, page));
     }
 }
 
 /// Sets words in their order.
 #[tactic(auto, unfolding(snp_model::specs::Opening::words_from))]
-pub fn set_words(memory: &mut Memory, words: &[WordSpec])
-    requires { AllByRecursion (IsWord (frames_of memory.old)) words.now }
-    ensures words { words_of memory.new ≡ words_from (words_of memory.old) words.now }
-    ensures entries { memory.new.entries ≡ memory.old.entries }
-    ensures frames { frames_of memory.new ≡ frames_of memory.old }
+pub fn set_words(parts: &mut OwnParts, words: &[WordSpec])
+    requires { AllByRecursion (IsWord (512 * length parts.old.bays.items)) words.now }
+    ensures words { words_of (own_bays parts.new.bays.items) ≡ words_from (words_of (own_bays parts.old.bays.items)) words.now }
+    ensures facts { facts_of (own_bays parts.new.bays.items) ≡ facts_of (own_bays parts.old.bays.items) }
+    ensures regions { length parts.new.bays.items ≡ length parts.old.bays.items }
 {
     'words: for word in words {
-        memory.set_word(word.frame, word.index, word.value);
+        set_word(parts, word.frame, word.index, word.value);
     }
 }
 

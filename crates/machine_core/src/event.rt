@@ -1,25 +1,54 @@
 ghost use Rattle.std.specs.Prelude.{◌≡◌, ◌<◌, List, length};
 ghost use Rattle.snp_model.specs.declared.scenario.GuestSpec.{GuestSpec};
-ghost use Rattle.snp_model.specs.declared.scenario.Role.TheVariants.{Cpu, Host};
-ghost use Rattle.snp_model.specs.State.{ActorPart};
-ghost use Rattle.snp_model.specs.Step.{item_move, line_at};
-ghost use Rattle.machine_core.specs.Memory.{frames_of, contents_of};
+ghost use Rattle.snp_model.specs.declared.scenario.Role.TheVariants.{Cpu, Host, Firmware};
+ghost use Rattle.snp_model.specs.Room.{IsBounded};
+ghost use Rattle.snp_model.specs.Step.{item_move, line_at, step_of};
+ghost use Rattle.snp_model.specs.Touches.{item_touches};
+ghost use Rattle.machine_core.specs.Bays.{HasAll, HasTouched, contents_of};
 ghost use Rattle.machine_core.specs.Moves.{move_by, view_on, IsSoundPart, IsSoundRole, IsSoundItem};
 
 use crate::actor::ActorState;
 use crate::cpu::{Processor, flat_access};
 use crate::host::host_access;
-use crate::memory::Memory;
+use crate::parts::Parts;
 use crate::shown::Shown;
-use snp_model::{GuestSpec, Item, Paging, Role};
+use crate::skip::skip;
+use snp_model::{Event, GuestSpec, Item, Paging, Role};
 
-/// What the next event of an unfinished actor shows; memory is then as after it.
+/// Makes the next event of an unfinished actor in memory of so many frames: the step of the tables, over
+/// parts that have the regions that it touches. Takes no memory.
+pub(crate) fn advance<P: Parts>(
+    actor: &mut ActorState,
+    frames: u32,
+    guests: &[GuestSpec],
+    parts: &mut P,
+) -> Event
+    requires sound { IsSoundPart frames (length guests.now) actor.old }
+    requires unfinished { actor.old.item < length actor.old.script }
+    requires short { IsBounded actor.old }
+    requires has { HasAll frames actor.old (P.bays parts.old) }
+    ensures event { result ≡ (step_of frames guests.now actor.old (view_on (contents_of (P.bays parts.old) guests.now))).event }
+    ensures part { actor.new ≡ (step_of frames guests.now actor.old (view_on (contents_of (P.bays parts.old) guests.now))).part }
+    ensures contents { contents_of (P.bays parts.new) guests.now ≡ (step_of frames guests.now actor.old (view_on (contents_of (P.bays parts.old) guests.now))).contents }
+    ensures kept { P.kept parts.old parts.new }
+{
+    let shown = next_event(parts, frames, guests, actor);
+    actor.take_down(shown)
+}
+
+// What the next event of an unfinished actor shows; the parts are then as after it.
 #[tactic(auto, unfolding(snp_model::specs::Step::item_move))]
-pub fn next_event(memory: &mut Memory, guests: &[GuestSpec], part: &ActorState) -> Shown
-    requires sound { IsSoundPart (frames_of memory.old) (length guests.now) part.now }
+fn next_event<P: Parts>(
+    parts: &mut P,
+    frames: u32,
+    guests: &[GuestSpec],
+    part: &ActorState,
+) -> Shown
+    requires sound { IsSoundPart frames (length guests.now) part.now }
     requires unfinished { part.now.item < length part.now.script }
-    ensures moves { item_move (frames_of memory.old) (view_on (contents_of memory.old guests.now)) part.now part.now.role (line_at part.now.script part.now.item).item ≡ move_by result (contents_of memory.new guests.now) part.now }
-    ensures frames { frames_of memory.new ≡ frames_of memory.old }
+    requires has { HasAll frames part.now (P.bays parts.old) }
+    ensures moves { item_move frames guests.now (view_on (contents_of (P.bays parts.old) guests.now)) part.now part.now.role (line_at part.now.script part.now.item).item ≡ move_by result (contents_of (P.bays parts.new) guests.now) part.now }
+    ensures kept { P.kept parts.old parts.new }
 {
     let line = part.line();
     match part.role() {
@@ -30,55 +59,84 @@ pub fn next_event(memory: &mut Memory, guests: &[GuestSpec], part: &ActorState) 
             paging,
         } => {
             let cpu = Processor { guest, vmpl, npt };
-            cpu_event(memory, guests, part, cpu, paging, line.item)
+            cpu_event(parts, frames, guests, part, cpu, paging, line.item)
         }
-        Role::Host => host_event(memory, line.item),
-        Role::Firmware => Shown::unbuilt(),
+        Role::Host => host_event(parts, frames, part, line.item),
+        Role::Firmware => firmware_event(parts, frames, part, line.item),
     }
 }
 
 // The next event of a guest's processor.
-#[tactic(auto, unfolding(snp_model::specs::Step::item_move))]
-fn cpu_event(
-    memory: &mut Memory,
+#[tactic(auto, unfolding(snp_model::specs::Step::item_move, snp_model::specs::Touches::item_touches))]
+fn cpu_event<P: Parts>(
+    parts: &mut P,
+    frames: u32,
     guests: &[GuestSpec],
     part: &ActorState,
     cpu: Processor,
     paging: Paging,
     item: Item,
 ) -> Shown
-    requires sound { IsSoundRole (frames_of memory.old) (length guests.now) (Cpu cpu.guest cpu.vmpl cpu.npt paging) }
-    ensures moves { item_move (frames_of memory.old) (view_on (contents_of memory.old guests.now)) part.now (Cpu cpu.guest cpu.vmpl cpu.npt paging) item ≡ move_by result (contents_of memory.new guests.now) part.now }
-    ensures frames { frames_of memory.new ≡ frames_of memory.old }
+    requires sound { IsSoundRole frames (length guests.now) (Cpu cpu.guest cpu.vmpl cpu.npt paging) }
+    requires has { HasTouched (item_touches frames part.now.deeds (Cpu cpu.guest cpu.vmpl cpu.npt paging) item) (P.bays parts.old) }
+    ensures moves { item_move frames guests.now (view_on (contents_of (P.bays parts.old) guests.now)) part.now (Cpu cpu.guest cpu.vmpl cpu.npt paging) item ≡ move_by result (contents_of (P.bays parts.new) guests.now) part.now }
+    ensures kept { P.kept parts.old parts.new }
 {
     match paging {
         Paging::Flat => match item {
-            Item::Access { address, op } => flat_access(memory, guests, part, cpu, address, &op),
+            Item::Access { address, op } => flat_access(
+                parts, frames, guests, part, cpu, address, &op,
+            ),
             Item::Pvalidate { .. } => Shown::unbuilt(),
             Item::Rmpadjust { .. } => Shown::unbuilt(),
             Item::Rmpupdate(_) => Shown::unbuilt(),
             Item::Psmash { .. } => Shown::unbuilt(),
             Item::Firmware(_) => Shown::unbuilt(),
-            Item::Skip { .. } => Shown::unbuilt(),
+            Item::Skip { count, test } => skip(part, count, &test),
         },
-        Paging::Four(_) => Shown::unbuilt(),
+        Paging::Four(_) => match item {
+            Item::Access { .. } => Shown::unbuilt(),
+            Item::Pvalidate { .. } => Shown::unbuilt(),
+            Item::Rmpadjust { .. } => Shown::unbuilt(),
+            Item::Rmpupdate(_) => Shown::unbuilt(),
+            Item::Psmash { .. } => Shown::unbuilt(),
+            Item::Firmware(_) => Shown::unbuilt(),
+            Item::Skip { count, test } => skip(part, count, &test),
+        },
     }
 }
 
 // The next event of a hypervisor's processor.
-#[tactic(auto, unfolding(snp_model::specs::Step::item_move))]
-fn host_event(memory: &mut Memory, item: Item) -> Shown
-    requires sound { IsSoundItem (frames_of memory.old) Host item }
-    ensures moves { (guests : List GuestSpec) (part : ActorPart) → item_move (frames_of memory.old) (view_on (contents_of memory.old guests)) part Host item ≡ move_by result (contents_of memory.new guests) part }
-    ensures frames { frames_of memory.new ≡ frames_of memory.old }
+#[tactic(auto, using(crate::proofs::TouchLaws::frame_has), unfolding(snp_model::specs::Step::item_move, snp_model::specs::Touches::item_touches))]
+fn host_event<P: Parts>(parts: &mut P, frames: u32, part: &ActorState, item: Item) -> Shown
+    requires sound { IsSoundItem frames Host item }
+    requires has { HasTouched (item_touches frames part.now.deeds Host item) (P.bays parts.old) }
+    ensures moves { (guests : List GuestSpec) → item_move frames guests (view_on (contents_of (P.bays parts.old) guests)) part.now Host item ≡ move_by result (contents_of (P.bays parts.new) guests) part.now }
+    ensures kept { P.kept parts.old parts.new }
 {
     match item {
-        Item::Access { address, op } => host_access(memory, address, &op),
+        Item::Access { address, op } => host_access(parts, frames, address, &op),
         Item::Pvalidate { .. } => Shown::unbuilt(),
         Item::Rmpadjust { .. } => Shown::unbuilt(),
         Item::Rmpupdate(_) => Shown::unbuilt(),
         Item::Psmash { .. } => Shown::unbuilt(),
         Item::Firmware(_) => Shown::unbuilt(),
-        Item::Skip { .. } => Shown::unbuilt(),
+        Item::Skip { count, test } => skip(part, count, &test),
+    }
+}
+
+// The next event of a firmware actor.
+#[tactic(auto, unfolding(snp_model::specs::Step::item_move))]
+fn firmware_event<P: Parts>(parts: &P, frames: u32, part: &ActorState, item: Item) -> Shown
+    ensures { (guests : List GuestSpec) → item_move frames guests (view_on (contents_of (P.bays parts.now) guests)) part.now Firmware item ≡ move_by result (contents_of (P.bays parts.now) guests) part.now }
+{
+    match item {
+        Item::Access { .. } => Shown::unbuilt(),
+        Item::Pvalidate { .. } => Shown::unbuilt(),
+        Item::Rmpadjust { .. } => Shown::unbuilt(),
+        Item::Rmpupdate(_) => Shown::unbuilt(),
+        Item::Psmash { .. } => Shown::unbuilt(),
+        Item::Firmware(_) => Shown::unbuilt(),
+        Item::Skip { count, test } => skip(part, count, &test),
     }
 }

@@ -1,15 +1,19 @@
-//! The machine: memory, guests and actors, and one event after the other.
+//! The machine: memory by regions, guests and actors, and one event after the other.
 #![tactic(auto)]
 
 mod actor;
+mod bay;
 mod building;
+mod changes;
 mod cpu;
 mod event;
 mod host;
 mod machine;
-mod memory;
+mod parts;
 mod shown;
-mod verdict;
+mod skip;
 mod walk;
 
+pub use bay::Bay;
 pub use machine::Machine;
+pub use parts::{OwnParts, Parts};

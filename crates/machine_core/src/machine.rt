@@ -8,18 +8,18 @@ ghost use Rattle.snp_model.specs.Step.{Step, event_of, after};
 ghost use Rattle.machine_core.specs.Machine.{state_of};
 
 use crate::actor::ActorState;
-use crate::building::{make_actors, set_pages, set_words};
-use crate::event::next_event;
-use crate::memory::Memory;
+use crate::building::{free_parts, make_actors, set_pages, set_words};
+use crate::event::advance;
+use crate::parts::OwnParts;
 use snp_model::{Event, GuestLine, GuestSpec, GuestState, Listed, Scenario};
 use std::alloc::{AllocError, Global};
 use std::marker::Model;
 
-/// A machine: memory, its guests, and its actors with their scripts. Contracts see the flat state that
+/// A machine: the regions of its memory, its guests, and its actors with their scripts. Contracts see the flat state that
 /// it is in by `state_of`.
 #[derive(Drop)]
 pub struct Machine {
-    memory: Memory,
+    parts: OwnParts,
     guests: Listed<GuestSpec>,
     actors: Vec<ActorState>,
 }
@@ -29,9 +29,9 @@ impl Model for Machine {
 
     ghost Value = { MachineImage };
 
-    ghost view = { λ m. record { memory = m.memory; guests = m.guests; actors = m.actors.items } };
+    ghost view = { λ m. record { bays = m.parts.bays.items; guests = m.guests; actors = m.actors.items } };
 
-    ghost invariant = { λ m. IsMachine (record { memory = m.memory; guests = m.guests; actors = m.actors.items }) };
+    ghost invariant = { λ m. IsMachine (record { bays = m.parts.bays.items; guests = m.guests; actors = m.actors.items }) };
 }
 
 impl Machine {
@@ -41,13 +41,13 @@ impl Machine {
         ensures { IfOk result (λ m. state_of m ≡ opening scenario.now) }
     {
         let guests = scenario.guests.as_slice();
-        let mut memory = Memory::zeroed(alloc, 512 * scenario.regions)?;
-        set_pages(&mut memory, guests, scenario.pages.as_slice());
-        set_words(&mut memory, scenario.words.as_slice());
+        let mut parts = free_parts(alloc, scenario.regions)?;
+        set_pages(&mut parts, guests, scenario.pages.as_slice());
+        set_words(&mut parts, scenario.words.as_slice());
         let actors = make_actors(alloc, scenario.actors.as_slice())?;
         let guests = Listed::from_slice(alloc, guests)?;
         Ok(Machine {
-            memory,
+            parts,
             guests,
             actors,
         })
@@ -61,9 +61,9 @@ impl Machine {
         ensures event { result ≡ event_of (state_of self.old) actor }
         ensures after { state_of self.new ≡ after (state_of self.old) actor }
     {
+        let frames = 512 * self.parts.bays.len() as u32;
         let part = &mut self.actors[actor as usize - 1];
-        let shown = next_event(&mut self.memory, self.guests.as_slice(), part);
-        part.take_down(shown)
+        advance(part, frames, self.guests.as_slice(), &mut self.parts)
     }
 
     /// Whether an actor has passed its last item, or doesn't exist.

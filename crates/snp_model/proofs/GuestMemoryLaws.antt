@@ -11,22 +11,22 @@ use Rattle.snp_model.specs.declared.scenario.Role.{Role}
 use Rattle.snp_model.specs.declared.scenario.Role.TheVariants.{Cpu, Host, Firmware}
 use Rattle.snp_model.specs.declared.scenario.Scenario.{Scenario}
 use Rattle.snp_model.specs.Locks.{in_range, view_of}
-use Rattle.snp_model.specs.State.{Contexts, State, part_of, idle_part, zero_words}
+use Rattle.snp_model.specs.State.{State, part_of, idle_part, zero_words}
 use Rattle.snp_model.specs.Step.{line_at, event_of, after}
-use Rattle.snp_model.specs.Opening.{frames_in, asid_of, words_from, opening, opening_part, opening_contexts}
+use Rattle.snp_model.specs.Opening.{frames_in, asid_of, words_from, opening, opening_part}
 use Rattle.snp_model.specs.Run.{state_from, state_after, IsDefined}
 use Rattle.snp_model.specs.Sound.{Pairwise, IsSound, AsidsDiffer, IsPage, GpnsDiffer, IsActor, IsRole}
 use Rattle.snp_model.specs.GuestMemory.{Memory, next_use, used, opening_memory, memory_from, memory_after, IsLegalFrom, IsLegal, AreLegal}
 use Rattle.snp_model.specs.Holders.{Archive, Core}
 use Rattle.snp_model.proofs.RunLaws.{after_keeps}
 use Rattle.snp_model.proofs.UseLaws.{AreWhole, RoleOwns, Fine, item_fine}
-use Rattle.snp_model.proofs.OpeningLaws.{IsApartFrom, RangesApart, opening_core, opening_whole, opening_asid}
+use Rattle.snp_model.proofs.OpeningLaws.{IsApartFrom, RangesApart, opening_core, opening_whole}
 
 -- what a state keeps for a guest, beside the guest's memory
 pub record Keeps (guest asid : ℕ) (archive : Archive) (m : State) (memory : Memory) : Type 0 where
   pub core : Core m.contents.pages archive asid memory
   pub whole : AreWhole m.contents.pages
-  pub owns : (actor : ℕ) → RoleOwns guest asid m.contents.contexts (part_of m actor).role
+  pub owns : (actor : ℕ) → RoleOwns guest asid m.guests (part_of m actor).role
 
 -- an event of any actor
 step_fine : (guest asid : ℕ) (archive : Archive) (m : State) (memory : Memory) (actor : ℕ) → Keeps guest asid archive m memory
@@ -34,26 +34,19 @@ step_fine : (guest asid : ℕ) (archive : Archive) (m : State) (memory : Memory)
 unfolding after next_use event_of
 step_fine guest asid archive m memory actor keeps =
     let part = part_of m actor in
-    (item_fine guest asid archive memory m.frames (view_of m) part part.role (line_at part.script part.item).item
+    (item_fine guest asid m.guests archive memory m.frames (view_of m) part part.role (line_at part.script part.item).item
     (record { core = keeps.core; whole = keeps.whole }) (keeps.owns actor)).fine
 
--- the ASIDs stay
-owns_after : (guest asid : ℕ) (old new : Contexts) (role : Role) → ((h : ℕ) → (new h).asid ≡ (old h).asid) → RoleOwns guest asid old role → RoleOwns guest asid new role
-owns_after guest asid old new (Cpu owner vmpl npt paging) same owns =
-    record { own = λ is. same owner ∙ owns.own is; other = λ different e. owns.other different (sym (same owner) ∙ e) }
-owns_after guest asid old new Host same owns = tt
-owns_after guest asid old new Firmware same owns = tt
-
+-- so the next state keeps the same
 step_keeps : (guest asid : ℕ) (archive : Archive) (m : State) (memory : Memory) (actor : ℕ) → Keeps guest asid archive m memory
     → Keeps guest asid archive (after m actor) (used (next_use guest m actor) memory)
+unfolding after
 step_keeps guest asid archive m memory actor keeps =
     let fine = step_fine guest asid archive m memory actor keeps in
     record {
       core = fine.core;
       whole = fine.whole;
-      owns = λ other.
-          owns_after guest asid m.contents.contexts (after m actor).contents.contexts (part_of (after m actor) other).role fine.asids
-          (subst (RoleOwns guest asid m.contents.contexts) (sym (after_keeps m actor other).role) (keeps.owns other));
+      owns = λ other. subst (RoleOwns guest asid m.guests) (sym (after_keeps m actor other).role) (keeps.owns other);
     }
 
 -- so a run from a state on
@@ -120,16 +113,16 @@ ranges_apart frames guests (page ∷ pages) all differ =
 
 -- each actor is of a declared guest, or of none
 declared_owns : (c : Scenario) (guest : ℕ) (frames : ℕ) (role : Role) → IsSound c → 0 < guest → guest ≤ length c.guests → IsRole frames (length c.guests) role
-    → RoleOwns guest (asid_of c.guests guest) (opening_contexts c.guests) role
+    → RoleOwns guest (asid_of c.guests guest) c.guests role
 declared_owns c guest frames (Cpu owner vmpl npt paging) sound some most is = record {
-  own = λ same. opening_asid c.guests owner ∙ ap (asid_of c.guests) same;
-  other = λ different e. asids_differ c sound owner guest is.guest_some is.guest_most some most different (sym (opening_asid c.guests owner) ∙ e);
+  own = λ same. ap (asid_of c.guests) same;
+  other = λ different e. asids_differ c sound owner guest is.guest_some is.guest_most some most different e;
 }
 declared_owns c guest frames Host sound some most is = tt
 declared_owns c guest frames Firmware sound some most is = tt
 
 actors_own : (c : Scenario) (guest : ℕ) (frames : ℕ) (actors : List Actor) (k : ℕ) → IsSound c → 0 < guest → guest ≤ length c.guests → AllByRecursion (IsActor frames (length c.guests)) actors
-    → RoleOwns guest (asid_of c.guests guest) (opening_contexts c.guests) (get_or (map opening_part actors) k idle_part).role
+    → RoleOwns guest (asid_of c.guests guest) c.guests (get_or (map opening_part actors) k idle_part).role
 unfolding idle_part
 actors_own c guest frames [] k sound some most all = tt
 actors_own c guest frames (actor ∷ actors) zero sound some most all = declared_owns c guest frames actor.role sound some most all.0.role

@@ -3,6 +3,7 @@ pub mod AttemptLaws
 pub mod CoreLaws
 pub mod GuestMemoryLaws
 pub mod GuestReadsLaws
+pub mod LocalityLaws
 pub mod MemoryLaws
 pub mod NestedReadsLaws
 pub mod OpeningLaws

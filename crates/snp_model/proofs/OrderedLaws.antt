@@ -37,7 +37,7 @@ own_event : (m : State) (s : List ℕ) (number : ℕ) → Unfinished m number
 unfolding AreAttempts event_of
 own_event m s number u rest =
     let p = part_of m number in
-    let move = item_move m.frames (view_of m) p p.role (line_at p.script p.item).item in
+    let move = item_move m.frames m.guests (view_of m) p p.role (line_at p.script p.item).item in
     let is = after_part m number u.within in
     let events = events_of number (run_from (after m number) s) in (
       u.has_line,

@@ -22,13 +22,14 @@ use Rattle.snp_model.specs.Verdicts.{private_verdict, host_verdict}
 use Rattle.snp_model.specs.declared.access.Verdict.{Verdict}
 use Rattle.snp_model.specs.declared.access.Verdict.TheVariants.{Pass, Hidden, Fault}
 use Rattle.snp_model.specs.declared.item.Item.{Item}
-use Rattle.snp_model.specs.declared.item.Item.TheVariants.{Access}
+use Rattle.snp_model.specs.declared.item.Item.TheVariants.{Access, Skip}
 use Rattle.snp_model.specs.declared.item.Op.{Op}
+use Rattle.snp_model.specs.declared.scenario.GuestSpec.{GuestSpec}
 use Rattle.snp_model.specs.declared.scenario.Paging.TheVariants.{Flat}
 use Rattle.snp_model.specs.declared.scenario.Role.{Role}
 use Rattle.snp_model.specs.declared.scenario.Role.TheVariants.{Cpu, Host}
 use Rattle.snp_model.specs.Step.{Position, Move, step_of, after, part_after, position_after, tries_again, passed_over, item_move, line_at, nested_words, is_running, is_canonical, quiet_move, unbuilt_move, access_move, begin_move, nested_move, flat_move, flat_access, host_access, flat_path, flat_place, flat_gpn, index_of, table_word, Processor}
-use Rattle.snp_model.specs.Opening.{opening, opening_part}
+use Rattle.snp_model.specs.Opening.{asid_of, opening, opening_part}
 use Rattle.snp_model.specs.Run.{state_from, state_after, IsDefinedFrom, IsDefined}
 use Rattle.snp_model.specs.Attempts.{script_attempts, actors_attempts, attempts_of}
 use Rattle.snp_model.specs.Room.{lines_room, part_room, parts_room, room_of, IsShort, IsBounded, AreBounded}
@@ -182,33 +183,34 @@ begin_short contents part context address none =
     cond_both (not (is_running context.state)) _ _ (LeavesShort part) (λ _. begun (Some outcomes.Offline))
     (λ _. cond_both (not (is_canonical address)) _ _ (LeavesShort part) (λ _. begun (Some outcomes.Gp)) (λ _. begun None))
 
-flat_short : (frames : ℕ) (contents : Contents) (part : ActorPart) (cpu : Processor) (address : ℕ) (op : Op) (stands : NestedEnd)
-    → nested_end (flat_path frames cpu address op) (nested_words part.deeds) ≡ stands → IsShort part.deeds → LeavesShort part (flat_move frames contents part cpu address op stands)
+flat_short : (frames : ℕ) (guests : List GuestSpec) (contents : Contents) (part : ActorPart) (cpu : Processor) (address : ℕ) (op : Op) (stands : NestedEnd)
+    → nested_end (flat_path frames cpu address op) (nested_words part.deeds) ≡ stands → IsShort part.deeds → LeavesShort part (flat_move frames guests contents part cpu address op stands)
 unfolding flat_move nested_move
-flat_short frames contents part cpu address op (ends.Read frame index) is short =
+flat_short frames guests contents part cpu address op (ends.Read frame index) is short =
     let path = flat_path frames cpu address op in
     let few = walk_reads path (nested_words part.deeds) 4 (first_read path) frame index (omega arith) is in
     record { open_is = λ _. short_more part.deeds frame index (table_word (contents.pages frame) index) short few }
-flat_short frames contents part cpu address op (ends.Leaf frame size) is short =
-    let place = flat_place (contents.contexts cpu.guest).asid cpu address frame size in
+flat_short frames guests contents part cpu address op (ends.Leaf frame size) is short =
+    let place = flat_place (asid_of guests cpu.guest) cpu address frame size in
     access_short contents part (deeds.Access (flat_gpn address) (index_of address) frame true) (private_verdict (contents.pages frame).facts place op) op frame (index_of address)
-flat_short frames contents part cpu address op (ends.Fault code) is short = unbuilt_short contents part
+flat_short frames guests contents part cpu address op (ends.Fault code) is short = unbuilt_short contents part
 
-flat_access_short : (frames : ℕ) (contents : Contents) (part : ActorPart) (cpu : Processor) (address : ℕ) (op : Op) (made : List Deed)
-    → part.deeds ≡ made → IsShort part.deeds → LeavesShort part (flat_access frames contents part cpu address op made)
+flat_access_short : (frames : ℕ) (guests : List GuestSpec) (contents : Contents) (part : ActorPart) (cpu : Processor) (address : ℕ) (op : Op) (made : List Deed)
+    → part.deeds ≡ made → IsShort part.deeds → LeavesShort part (flat_access frames guests contents part cpu address op made)
 unfolding flat_access
-flat_access_short frames contents part cpu address op [] is short = begin_short contents part (contents.contexts cpu.guest) address is
-flat_access_short frames contents part cpu address op (deed ∷ others) is short =
-    flat_short frames contents part cpu address op _ (ap (λ (ds : List Deed). nested_end (flat_path frames cpu address op) (nested_words ds)) is) short
+flat_access_short frames guests contents part cpu address op [] is short = begin_short contents part (contents.contexts cpu.guest) address is
+flat_access_short frames guests contents part cpu address op (deed ∷ others) is short =
+    flat_short frames guests contents part cpu address op _ (ap (λ (ds : List Deed). nested_end (flat_path frames cpu address op) (nested_words ds)) is) short
 
 -- so each item's move
-move_short : (frames : ℕ) (view : View) (part : ActorPart) (role : Role) (item : Item) → IsShort part.deeds → LeavesShort part (item_move frames view part role item)
+move_short : (frames : ℕ) (guests : List GuestSpec) (view : View) (part : ActorPart) (role : Role) (item : Item) → IsShort part.deeds → LeavesShort part (item_move frames guests view part role item)
 unfolding item_move host_access
-move_short frames view part (Cpu guest vmpl npt Flat) (Access address op) short =
-    flat_access_short frames view.contents part (record { guest = guest; vmpl = vmpl; npt = npt }) address op part.deeds refl short
-move_short frames view part Host (Access address op) short =
+move_short frames guests view part (Cpu guest vmpl npt Flat) (Access address op) short =
+    flat_access_short frames guests view.contents part (record { guest = guest; vmpl = vmpl; npt = npt }) address op part.deeds refl short
+move_short frames guests view part Host (Access address op) short =
     access_short view.contents part (deeds.Host (address / 4096) (index_of address)) (host_verdict (view.contents.pages (address / 4096)).facts op) op (address / 4096) (index_of address)
-move_short frames view part role item short = unbuilt_short view.contents part
+move_short frames guests view part role (Skip count test) short = record { open_is = λ none. cc }
+move_short frames guests view part role item short = unbuilt_short view.contents part
 
 -- a short attempt has fewer deeds than an array of 32 holds, also with the next one
 pub deeds_short : (ds : List Deed) → IsShort ds → length ds < 32
@@ -253,9 +255,9 @@ unfolding after room_of
 step_lowers m actor bounded unfinished =
     let u = unfinished_at m actor unfinished in
     let p = part_of m actor in
-    let move = item_move m.frames (view_of m) p p.role (line_at p.script p.item).item in
+    let move = item_move m.frames m.guests (view_of m) p p.role (line_at p.script p.item).item in
     let own = bounded (actor - 1) idle_part u.within in
-    let lowers = part_lowers p move move.outcome own u.has_line (move_short m.frames (view_of m) p p.role (line_at p.script p.item).item own.short).open_is in
+    let lowers = part_lowers p move move.outcome own u.has_line (move_short m.frames m.guests (view_of m) p p.role (line_at p.script p.item).item own.short).open_is in
     record {
       bounded = All-set IsBounded m.actors (actor - 1) (part_after p move move.outcome) lowers.bounded bounded;
       less = set_lowers m.actors (actor - 1) (part_after p move move.outcome) u.within lowers.less;
@@ -323,8 +325,8 @@ pub state_deeds_short : (m : State) (actor : ℕ) → AreBounded m → actor - 1
 state_deeds_short m actor bounded within = deeds_short (part_of m actor).deeds (bounded (actor - 1) idle_part within).short
 
 -- an actor's part stays bounded in its own step, whatever it looks at
-pub step_bounded : (frames : ℕ) (part : ActorPart) (view : View) → IsBounded part → part.item < length part.script → IsBounded (step_of frames part view).part
-step_bounded frames part view bounded has =
+pub step_bounded : (frames : ℕ) (guests : List GuestSpec) (part : ActorPart) (view : View) → IsBounded part → part.item < length part.script → IsBounded (step_of frames guests part view).part
+step_bounded frames guests part view bounded has =
     let item = (line_at part.script part.item).item in
-    let move = item_move frames view part part.role item in
-    (part_lowers part move move.outcome bounded has (move_short frames view part part.role item bounded.short).open_is).bounded
+    let move = item_move frames guests view part part.role item in
+    (part_lowers part move move.outcome bounded has (move_short frames guests view part part.role item bounded.short).open_is).bounded

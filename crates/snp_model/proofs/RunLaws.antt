@@ -115,7 +115,7 @@ pub after_keeps : (m : State) (actor other : ℕ) → KeepsPlace (part_of m othe
 unfolding after
 after_keeps m actor other =
     let old = part_of m actor in
-    let move = item_move m.frames (view_of m) old old.role (line_at old.script old.item).item in
+    let move = item_move m.frames m.guests (view_of m) old old.role (line_at old.script old.item).item in
     at_set (KeepsPlace (part_of m other)) m.actors (actor - 1) (other - 1) (part_after old move move.outcome) idle_part (keeps_place (part_of m other))
     (λ same within. subst (λ (k : ℕ). KeepsPlace (get_or m.actors k idle_part) (part_after old move move.outcome)) (sym same) (part_after_keeps old move move.outcome))
 
@@ -132,15 +132,15 @@ pub after_guests : (m : State) (actor : ℕ) → (after m actor).guests ≡ m.gu
 unfolding after
 after_guests m actor = refl
 
-pub after_contents : (m : State) (actor : ℕ) → (after m actor).contents ≡ (step_of m.frames (part_of m actor) (view_of m)).contents
+pub after_contents : (m : State) (actor : ℕ) → (after m actor).contents ≡ (step_of m.frames m.guests (part_of m actor) (view_of m)).contents
 unfolding after
 after_contents m actor = refl
 
-pub event_is : (m : State) (actor : ℕ) → event_of m actor ≡ (step_of m.frames (part_of m actor) (view_of m)).event
+pub event_is : (m : State) (actor : ℕ) → event_of m actor ≡ (step_of m.frames m.guests (part_of m actor) (view_of m)).event
 unfolding event_of
 event_is m actor = refl
 
-pub after_part : (m : State) (actor : ℕ) → actor - 1 < length m.actors → part_of (after m actor) actor ≡ (step_of m.frames (part_of m actor) (view_of m)).part
+pub after_part : (m : State) (actor : ℕ) → actor - 1 < length m.actors → part_of (after m actor) actor ≡ (step_of m.frames m.guests (part_of m actor) (view_of m)).part
 unfolding after
 after_part m actor within = get_or-set_same m.actors (actor - 1) _ idle_part within
 

@@ -9,13 +9,15 @@ use Rattle.std.specs.Prelude.{codes, bytes_eq, take, drop, replicate, ◌-◌, n
 use Rattle.std.specs.List.{AllByRecursion, list_any}
 use Rattle.snp_model.specs.declared.reading.Reason.{Reason}
 use Rattle.snp_model.specs.declared.item.Item.{Item}
-use Rattle.snp_model.specs.declared.item.Item.TheVariants.{Access}
+use Rattle.snp_model.specs.declared.item.Item.TheVariants.{Access, Skip}
 use Rattle.snp_model.specs.declared.item.Line.{Line}
-use Rattle.snp_model.specs.declared.item.Op.TheVariants.{Load, Store}
+use Rattle.snp_model.specs.declared.item.Op.{Op}
+use Rattle.snp_model.specs.declared.item.Op.TheVariants.{Load, Store, Swap, Compare, Xor}
+use Rattle.snp_model.specs.declared.item.SkipTest.{SkipTest}
+use Rattle.snp_model.specs.declared.item.SkipTest.TheVariants.{Value}
 use Rattle.snp_model.specs.declared.scenario.Actor.{Actor}
 use Rattle.snp_model.specs.declared.scenario.GuestSpec.{GuestSpec}
 use Rattle.snp_model.specs.declared.scenario.PageSpec.{PageSpec}
-use Rattle.snp_model.specs.declared.scenario.Paging.{Paging}
 use Rattle.snp_model.specs.declared.scenario.Paging.TheVariants.{Flat}
 use Rattle.snp_model.specs.declared.scenario.Role.{Role}
 use Rattle.snp_model.specs.declared.scenario.Role.TheVariants.{Cpu, Host, Firmware}
@@ -23,13 +25,13 @@ use Rattle.snp_model.specs.declared.scenario.Scenario.{Scenario}
 use Rattle.snp_model.specs.declared.scenario.Turn.{Turn}
 use Rattle.snp_model.specs.declared.scenario.WordSpec.{WordSpec}
 use Rattle.snp_model.specs.Attempts.{attempts_of, actors_attempts, script_attempts}
-use Rattle.snp_model.specs.ItemLines.{once, cpu_load_row, cpu_store_row, cpu_item, host_store_row, host_item, item_words}
+use Rattle.snp_model.specs.ItemLines.{once, address_word, load_row, store_row, swap_row, cas_row, xor_row, skip_test, skip_row, skip_value_row, skip_item, access_item, item_words}
 use Rattle.snp_model.specs.Lines.{◌>>=◌, ◌>>◌, cut_at, decimal, is_row, is_plain, words_of, require, word, fixed, number, ranged, below, multiple}
 use Rattle.snp_model.specs.declared.reading.Quantity.{Quantity}
 use Rattle.snp_model.specs.declared.reading.Quantity.TheVariants as quantities
 use Rattle.snp_model.specs.Reading.{Made, nothing, reading, closed, Fault, refused, is_passed_over, turns_spell, order_of, by_rule, within, fit, fit_line, fit_words, add_regions, add_guest, add_page, add_word, add_actor, add_line, add_item_of, add_item, add_order, add_words, turns_count, Makes, Valid}
 use Rattle.snp_model.specs.ScenarioLines.{frames_of, regions_row, turn_from, turn_parts, turn_of, turns_after, is_order_row, order_row, version_row, first_scenario, has_no, before_pages, before_words, before_actors, before_orders, idle, opening, opened_of, next_number, page_size, guest_row, page_row, word_row, cpu_row, host_row, with_line, has_asid, is_opened, is_declared, apart, collide, key_of, validity}
-use Rattle.snp_model.specs.Sound.{Pairwise, IsGuest, AsidsDiffer, IsPage, FramesDiffer, GpnsDiffer, IsWord, IsActor, IsCpu, IsRole, IsItemOf, IsLineOf, IsTurn, IsSound}
+use Rattle.snp_model.specs.Sound.{Pairwise, IsGuest, AsidsDiffer, IsPage, FramesDiffer, GpnsDiffer, IsWord, IsActor, IsCpu, IsRole, IsSkip, IsItemOf, IsLineOf, IsTurn, IsSound}
 
 -- steps that gave a value
 pub bind_ok : {A B E : Type 0} (r : Result A E) (f : A → Result B E) (y : B) → (r >>= f) ≡ Ok y → (x : A) × (r ≡ Ok x) × (f x ≡ Ok y)
@@ -140,9 +142,10 @@ role_more frames frames' guests guests' more_frames more_guests Firmware is = is
 
 item_more : (frames frames' : ℕ) → frames ≤ frames' → (role : Role) (item : Item) → IsItemOf frames role item → IsItemOf frames' role item
 item_more frames frames' more (Cpu guest vmpl npt paging) item is = is
-item_more frames frames' more Host (Access address op) is = let h = is.0 in (omega arith, is.1, is.2)
+item_more frames frames' more Host (Access address op) is = let h = is.0 in (omega arith, is.1)
+item_more frames frames' more Host (Skip count test) is = is
 item_more frames frames' more Host item is = absurd is
-item_more frames frames' more Firmware item is = absurd is
+item_more frames frames' more Firmware item is = is
 
 actor_more : (frames frames' guests guests' : ℕ) → frames ≤ frames' → guests ≤ guests' → (actor : Actor) → IsActor frames guests actor → IsActor frames' guests' actor
 actor_more frames frames' guests guests' more_frames more_guests actor is =
@@ -304,70 +307,119 @@ host_row_ok c ws made h = host_chain c (next_number (length c.actors) (word ws 1
 err_not_ok : (reason : Reason) (line : Line) → Err reason ≡ Ok line → ⊥
 err_not_ok reason line h = cc
 
-cpu_load_ok : (frames guest vmpl npt : ℕ) (paging : Paging) (ws : List (List ℕ)) (line : Line) → cpu_load_row ws ≡ Ok line → IsLineOf frames (Cpu guest vmpl npt paging) line
-unfolding cpu_load_row
-cpu_load_ok frames guest vmpl npt paging ws line h =
-    let place = bind_ok (number (word ws 1)) (λ (n : ℕ). multiple 8 n >>= (λ (a : ℕ). Ok (once (Access a Load)))) line h in
-    let address = bind_ok (multiple 8 place.0) (λ (a : ℕ). Ok (once (Access a Load))) line place.2 in
-    let aligned = multiple_ok 8 place.0 address.0 address.1 in
-    let made : Line = once (Access address.0 Load) in
-    let same : made ≡ line = let e = address.2 in cc in
-    let fits : address.0 % 8 ≡ 0 = ap (λ (n : ℕ). n % 8) aligned.0 ∙ aligned.1 in
-    subst (IsLineOf frames (Cpu guest vmpl npt paging)) same (record { item = (fits, tt); retries = omega arith })
+-- an address is one that the actor's role may have, whatever the operation
+address_ok : (frames : ℕ) (role : Role) (w : List ℕ) (a : ℕ) → address_word role frames w ≡ Ok a → (op : Op) → IsItemOf frames role (Access a op)
+unfolding address_word
+address_ok frames (Cpu guest vmpl npt paging) w a h op =
+    let place = bind_ok (number w) (multiple 8) a h in
+    let aligned = multiple_ok 8 place.0 a place.2 in
+    ap (λ (n : ℕ). n % 8) aligned.0 ∙ aligned.1
+address_ok frames Host w a h op =
+    let place = bind_ok (below (4096 * frames) w) (multiple 8) a h in
+    let aligned = multiple_ok 8 place.0 a place.2 in
+    let within = below_ok (4096 * frames) w place.0 place.1 in
+    (subst (λ (n : ℕ). n < 4096 * frames) (sym aligned.0) within, ap (λ (n : ℕ). n % 8) aligned.0 ∙ aligned.1)
+address_ok frames Firmware w a h op = absurd (cc)
 
-cpu_store_ok : (frames guest vmpl npt : ℕ) (paging : Paging) (ws : List (List ℕ)) (line : Line) → cpu_store_row ws ≡ Ok line → IsLineOf frames (Cpu guest vmpl npt paging) line
-unfolding cpu_store_row
-cpu_store_ok frames guest vmpl npt paging ws line h =
-    let place = bind_ok (number (word ws 1)) (λ (n : ℕ). multiple 8 n >>= (λ (a : ℕ). number (word ws 2) >>= (λ (v : ℕ). Ok (once (Access a (Store v)))))) line h in
-    let address = bind_ok (multiple 8 place.0) (λ (a : ℕ). number (word ws 2) >>= (λ (v : ℕ). Ok (once (Access a (Store v))))) line place.2 in
+access_ok : (frames : ℕ) (role : Role) (w : List ℕ) (a : ℕ) (op : Op) (line : Line) → address_word role frames w ≡ Ok a → once (Access a op) ≡ line → IsLineOf frames role line
+access_ok frames role w a op line h same = subst (IsLineOf frames role) same (record { item = address_ok frames role w a h op; retries = omega arith })
+
+load_ok : (frames : ℕ) (role : Role) (ws : List (List ℕ)) (line : Line) → load_row role frames ws ≡ Ok line → IsLineOf frames role line
+unfolding load_row
+load_ok frames role ws line h =
+    let address = bind_ok (address_word role frames (word ws 1)) (λ (a : ℕ). Ok (once (Access a Load))) line h in
+    access_ok frames role (word ws 1) address.0 Load line address.1 (let e = address.2 in cc)
+
+store_ok : (frames : ℕ) (role : Role) (ws : List (List ℕ)) (line : Line) → store_row role frames ws ≡ Ok line → IsLineOf frames role line
+unfolding store_row
+store_ok frames role ws line h =
+    let address = bind_ok (address_word role frames (word ws 1)) (λ (a : ℕ). number (word ws 2) >>= (λ (v : ℕ). Ok (once (Access a (Store v))))) line h in
     let value = bind_ok (number (word ws 2)) (λ (v : ℕ). Ok (once (Access address.0 (Store v)))) line address.2 in
-    let aligned = multiple_ok 8 place.0 address.0 address.1 in
-    let made : Line = once (Access address.0 (Store value.0)) in
-    let same : made ≡ line = let e = value.2 in cc in
-    let fits : address.0 % 8 ≡ 0 = ap (λ (n : ℕ). n % 8) aligned.0 ∙ aligned.1 in
-    subst (IsLineOf frames (Cpu guest vmpl npt paging)) same (record { item = (fits, tt); retries = omega arith })
+    access_ok frames role (word ws 1) address.0 (Store value.0) line address.1 (let e = value.2 in cc)
+
+swap_ok : (frames : ℕ) (role : Role) (ws : List (List ℕ)) (line : Line) → swap_row role frames ws ≡ Ok line → IsLineOf frames role line
+unfolding swap_row
+swap_ok frames role ws line h =
+    let address = bind_ok (address_word role frames (word ws 1)) (λ (a : ℕ). number (word ws 2) >>= (λ (v : ℕ). Ok (once (Access a (Swap v))))) line h in
+    let value = bind_ok (number (word ws 2)) (λ (v : ℕ). Ok (once (Access address.0 (Swap v)))) line address.2 in
+    access_ok frames role (word ws 1) address.0 (Swap value.0) line address.1 (let e = value.2 in cc)
+
+cas_ok : (frames : ℕ) (role : Role) (ws : List (List ℕ)) (line : Line) → cas_row role frames ws ≡ Ok line → IsLineOf frames role line
+unfolding cas_row
+cas_ok frames role ws line h =
+    let address = bind_ok (address_word role frames (word ws 1)) (λ (a : ℕ). number (word ws 2) >>= (λ (old : ℕ). number (word ws 3) >>= (λ (new : ℕ). Ok (once (Access a (Compare old new)))))) line h in
+    let expected = bind_ok (number (word ws 2)) (λ (old : ℕ). number (word ws 3) >>= (λ (new : ℕ). Ok (once (Access address.0 (Compare old new))))) line address.2 in
+    let next = bind_ok (number (word ws 3)) (λ (new : ℕ). Ok (once (Access address.0 (Compare expected.0 new)))) line expected.2 in
+    access_ok frames role (word ws 1) address.0 (Compare expected.0 next.0) line address.1 (let e = next.2 in cc)
+
+xor_ok : (frames : ℕ) (role : Role) (ws : List (List ℕ)) (line : Line) → xor_row role frames ws ≡ Ok line → IsLineOf frames role line
+unfolding xor_row
+xor_ok frames role ws line h =
+    let address = bind_ok (address_word role frames (word ws 1)) (λ (a : ℕ). number (word ws 2) >>= (λ (v : ℕ). Ok (once (Access a (Xor v))))) line h in
+    let value = bind_ok (number (word ws 2)) (λ (v : ℕ). Ok (once (Access address.0 (Xor v)))) line address.2 in
+    access_ok frames role (word ws 1) address.0 (Xor value.0) line address.1 (let e = value.2 in cc)
+
+-- every role may have a skip
+skip_of : (frames : ℕ) (role : Role) (count : ℕ) (test : SkipTest) → IsSkip count → IsItemOf frames role (Skip count test)
+skip_of frames (Cpu guest vmpl npt paging) count test is = is
+skip_of frames Host count test is = is
+skip_of frames Firmware count test is = is
+
+skipped_ok : (frames : ℕ) (role : Role) (w : List ℕ) (count : ℕ) (test : SkipTest) (line : Line) → ranged 1 8192 w ≡ Ok count → once (Skip count test) ≡ line → IsLineOf frames role line
+skipped_ok frames role w count test line h same = subst (IsLineOf frames role) same (record { item = skip_of frames role count test (ranged_ok 1 8192 w count h); retries = omega arith })
+
+skip_ok : (frames : ℕ) (role : Role) (ws : List (List ℕ)) (line : Line) → skip_row ws ≡ Ok line → IsLineOf frames role line
+unfolding skip_row
+skip_ok frames role ws line h =
+    let count = bind_ok (ranged 1 8192 (word ws 1)) (λ (n : ℕ). fixed (word ws 2) (codes "if") >> (skip_test (word ws 3) >>= (λ (t : SkipTest). Ok (once (Skip n t))))) line h in
+    let is_if = then_ok (fixed (word ws 2) (codes "if")) (skip_test (word ws 3) >>= (λ (t : SkipTest). Ok (once (Skip count.0 t)))) line count.2 in
+    let test = bind_ok (skip_test (word ws 3)) (λ (t : SkipTest). Ok (once (Skip count.0 t))) line is_if.2 in
+    skipped_ok frames role (word ws 1) count.0 test.0 line count.1 (let e = test.2 in cc)
+
+skip_value_ok : (frames : ℕ) (role : Role) (ws : List (List ℕ)) (line : Line) → skip_value_row ws ≡ Ok line → IsLineOf frames role line
+unfolding skip_value_row
+skip_value_ok frames role ws line h =
+    let count = bind_ok (ranged 1 8192 (word ws 1)) (λ (n : ℕ). fixed (word ws 2) (codes "if") >> (fixed (word ws 3) (codes "value") >> (number (word ws 4) >>= (λ (v : ℕ). Ok (once (Skip n (Value v))))))) line h in
+    let is_if = then_ok (fixed (word ws 2) (codes "if")) (fixed (word ws 3) (codes "value") >> (number (word ws 4) >>= (λ (v : ℕ). Ok (once (Skip count.0 (Value v)))))) line count.2 in
+    let is_value = then_ok (fixed (word ws 3) (codes "value")) (number (word ws 4) >>= (λ (v : ℕ). Ok (once (Skip count.0 (Value v))))) line is_if.2 in
+    let value = bind_ok (number (word ws 4)) (λ (v : ℕ). Ok (once (Skip count.0 (Value v)))) line is_value.2 in
+    skipped_ok frames role (word ws 1) count.0 (Value value.0) line count.1 (let e = value.2 in cc)
 
 select : {A E : Type 0} (b : Bool) (x y : Result A E) (z : A) (P : Type 0) → (b ≡ true → x ≡ Ok z → P) → (b ≡ false → y ≡ Ok z → P) → cond b x y ≡ Ok z → P
 select true x y z P first second h = first refl h
 select false x y z P first second h = second refl h
 
-cpu_item_ok : (frames guest vmpl npt : ℕ) (paging : Paging) (ws : List (List ℕ)) (line : Line) → cpu_item ws ≡ Ok line → IsLineOf frames (Cpu guest vmpl npt paging) line
-unfolding cpu_item
-cpu_item_ok frames guest vmpl npt paging ws line h =
+skip_item_ok : (frames : ℕ) (role : Role) (ws : List (List ℕ)) (line : Line) → skip_item ws ≡ Ok line → IsLineOf frames role line
+unfolding skip_item
+skip_item_ok frames role ws line h =
     let refused : Result Line Reason = Err Form in
-    let store : Result Line Reason = cond (is_row ws (codes "store") 3) (cpu_store_row ws) refused in
-    select (is_row ws (codes "load") 2) (cpu_load_row ws) store line (IsLineOf frames (Cpu guest vmpl npt paging) line)
-    (λ fits made. cpu_load_ok frames guest vmpl npt paging ws line made)
-    (λ fails other. select (is_row ws (codes "store") 3) (cpu_store_row ws) refused line (IsLineOf frames (Cpu guest vmpl npt paging) line)
-    (λ fits made. cpu_store_ok frames guest vmpl npt paging ws line made)
+    let P = IsLineOf frames role line in
+    select (is_row ws (codes "skip") 4) (skip_row ws) (cond (is_row ws (codes "skip") 5) (skip_value_row ws) refused) line P
+    (λ fits made. skip_ok frames role ws line made)
+    (λ fails other. select (is_row ws (codes "skip") 5) (skip_value_row ws) refused line P
+    (λ fits made. skip_value_ok frames role ws line made)
     (λ none made. absurd (err_not_ok Form line made)) other)
     h
 
-host_store_ok : (frames : ℕ) (ws : List (List ℕ)) (line : Line) → host_store_row frames ws ≡ Ok line → IsLineOf frames Host line
-unfolding host_store_row
-host_store_ok frames ws line h =
-    let place = bind_ok (below (4096 * frames) (word ws 1)) (λ (n : ℕ). multiple 8 n >>= (λ (a : ℕ). number (word ws 2) >>= (λ (v : ℕ). Ok (once (Access a (Store v)))))) line h in
-    let address = bind_ok (multiple 8 place.0) (λ (a : ℕ). number (word ws 2) >>= (λ (v : ℕ). Ok (once (Access a (Store v))))) line place.2 in
-    let value = bind_ok (number (word ws 2)) (λ (v : ℕ). Ok (once (Access address.0 (Store v)))) line address.2 in
-    let aligned = multiple_ok 8 place.0 address.0 address.1 in
-    let within = below_ok (4096 * frames) (word ws 1) place.0 place.1 in
-    let made : Line = once (Access address.0 (Store value.0)) in
-    let same : made ≡ line = let e = value.2 in cc in
-    let fits : address.0 % 8 ≡ 0 = ap (λ (n : ℕ). n % 8) aligned.0 ∙ aligned.1 in
-    let inside : address.0 < 4096 * frames = subst (λ (n : ℕ). n < 4096 * frames) (sym aligned.0) within in
-    subst (IsLineOf frames Host) same (record { item = (inside, fits, tt); retries = omega arith })
-
-host_item_ok : (frames : ℕ) (ws : List (List ℕ)) (line : Line) → host_item frames ws ≡ Ok line → IsLineOf frames Host line
-unfolding host_item
-host_item_ok frames ws line h =
-    let refused : Result Line Reason = Err Form in
-    select (is_row ws (codes "store") 3) (host_store_row frames ws) refused line (IsLineOf frames Host line)
-    (λ fits made. host_store_ok frames ws line made) (λ none made. absurd (err_not_ok Form line made)) h
+access_item_ok : (frames : ℕ) (role : Role) (ws : List (List ℕ)) (line : Line) → access_item role frames ws ≡ Ok line → IsLineOf frames role line
+unfolding access_item
+access_item_ok frames role ws line h =
+    let P = IsLineOf frames role line in
+    let xor : Result Line Reason = cond (is_row ws (codes "xor") 3) (xor_row role frames ws) (skip_item ws) in
+    let cas : Result Line Reason = cond (is_row ws (codes "cas") 4) (cas_row role frames ws) xor in
+    let swap : Result Line Reason = cond (is_row ws (codes "swap") 3) (swap_row role frames ws) cas in
+    let store : Result Line Reason = cond (is_row ws (codes "store") 3) (store_row role frames ws) swap in
+    select (is_row ws (codes "load") 2) (load_row role frames ws) store line P (λ _ made. load_ok frames role ws line made)
+    (λ _ h1. select (is_row ws (codes "store") 3) (store_row role frames ws) swap line P (λ _ made. store_ok frames role ws line made)
+    (λ _ h2. select (is_row ws (codes "swap") 3) (swap_row role frames ws) cas line P (λ _ made. swap_ok frames role ws line made)
+    (λ _ h3. select (is_row ws (codes "cas") 4) (cas_row role frames ws) xor line P (λ _ made. cas_ok frames role ws line made)
+    (λ _ h4. select (is_row ws (codes "xor") 3) (xor_row role frames ws) (skip_item ws) line P (λ _ made. xor_ok frames role ws line made)
+    (λ _ h5. skip_item_ok frames role ws line h5) h4) h3) h2) h1) h
 
 item_ok : (frames : ℕ) (role : Role) (ws : List (List ℕ)) (line : Line) → item_words role frames ws ≡ Ok line → IsLineOf frames role line
-item_ok frames (Cpu guest vmpl npt paging) ws line h = cpu_item_ok frames guest vmpl npt paging ws line h
-item_ok frames Host ws line h = host_item_ok frames ws line h
-item_ok frames Firmware ws line h = absurd (cc)
+item_ok frames (Cpu guest vmpl npt paging) ws line h = access_item_ok frames (Cpu guest vmpl npt paging) ws line h
+item_ok frames Host ws line h = access_item_ok frames Host ws line h
+item_ok frames Firmware ws line h = skip_item_ok frames Firmware ws line h
 
 -- schedules
 turn_from_ok : (actor count : ℕ) (turn : Turn) → turn_from actor count ≡ Ok turn → IsTurn turn

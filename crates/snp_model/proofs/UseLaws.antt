@@ -11,18 +11,21 @@ use Rattle.snp_model.specs.declared.event.Deed.TheVariants as deeds
 use Rattle.snp_model.specs.declared.event.Outcome.{Outcome}
 use Rattle.snp_model.specs.declared.event.Outcome.TheVariants as outcomes
 use Rattle.snp_model.specs.declared.item.Item.{Item}
-use Rattle.snp_model.specs.declared.item.Item.TheVariants.{Access}
+use Rattle.snp_model.specs.declared.item.Item.TheVariants.{Access, Skip}
 use Rattle.snp_model.specs.declared.item.Op.{Op}
 use Rattle.snp_model.specs.declared.item.Op.TheVariants.{Load, Store, Swap, Compare, Xor}
+use Rattle.snp_model.specs.declared.scenario.GuestSpec.{GuestSpec}
 use Rattle.snp_model.specs.declared.scenario.Paging.{Paging}
 use Rattle.snp_model.specs.declared.scenario.Paging.TheVariants.{Flat}
 use Rattle.snp_model.specs.declared.scenario.Role.{Role}
 use Rattle.snp_model.specs.declared.scenario.Role.TheVariants.{Cpu, Host, Firmware}
 use Rattle.snp_model.specs.declared.walk.NestedEnd.{NestedEnd}
 use Rattle.snp_model.specs.declared.walk.NestedEnd.TheVariants as ends
+use Rattle.snp_model.specs.Opening.{asid_of}
 use Rattle.snp_model.specs.Operations.{outcome_of}
+use Rattle.snp_model.specs.Skips.{skip_outcome}
 use Rattle.snp_model.specs.Verdicts.{private_verdict, private_refusal, host_verdict, is_large, lacks}
-use Rattle.snp_model.specs.State.{Pages, Context, Contexts, Contents, ActorPart, View, word_of}
+use Rattle.snp_model.specs.State.{Pages, Context, Contents, ActorPart, View, word_of}
 use Rattle.snp_model.specs.Step.{Move, item_move, is_running, is_canonical, quiet_move, unbuilt_move, access_move, pages_after, begin_move, nested_move, flat_move, flat_access, host_access, flat_place, flat_gpn, index_of, Processor}
 use Rattle.snp_model.specs.GuestMemory.{Memory, Use, Untouched, use_of_word, use_of, use_for, IsLegalUse, used}
 use Rattle.snp_model.specs.Holders.{Archive, InFrame, IsHeldAs, Core}
@@ -33,14 +36,14 @@ abbrev pub AreWhole : Pages → Type 0
 AreWhole pages = (f : ℕ) → length (pages f).words ≡ 512
 
 -- the processor of a guest uses that guest's ASID, and no other guest's processor does
-pub record Owns (guest asid : ℕ) (contexts : Contexts) (owner : ℕ) : Type 0 where
-  pub own : owner ≡ guest → (contexts owner).asid ≡ asid
-  pub other : owner ≢ guest → (contexts owner).asid ≢ asid
+pub record Owns (guest asid : ℕ) (guests : List GuestSpec) (owner : ℕ) : Type 0 where
+  pub own : owner ≡ guest → asid_of guests owner ≡ asid
+  pub other : owner ≢ guest → asid_of guests owner ≢ asid
 
-abbrev pub RoleOwns : ℕ → ℕ → Contexts → Role → Type 0
-RoleOwns guest asid contexts (Cpu owner vmpl npt paging) = Owns guest asid contexts owner
-RoleOwns guest asid contexts Host = Unit {0}
-RoleOwns guest asid contexts Firmware = Unit {0}
+abbrev pub RoleOwns : ℕ → ℕ → List GuestSpec → Role → Type 0
+RoleOwns guest asid guests (Cpu owner vmpl npt paging) = Owns guest asid guests owner
+RoleOwns guest asid guests Host = Unit {0}
+RoleOwns guest asid guests Firmware = Unit {0}
 
 -- before an event
 pub record Before (asid : ℕ) (archive : Archive) (memory : Memory) (old : Contents) : Type 0 where
@@ -52,7 +55,6 @@ pub record Fine (asid : ℕ) (archive : Archive) (memory : Memory) (old new : Co
   pub legal : IsLegalUse memory does
   pub core : Core new.pages archive asid (used does memory)
   pub whole : AreWhole new.pages
-  pub asids : (h : ℕ) → (new.contexts h).asid ≡ (old.contexts h).asid
 
 -- so a move of an item of an actor
 pub record MoveFine (guest asid : ℕ) (archive : Archive) (memory : Memory) (old : Contents) (role : Role) (item : Item) (move : Move) : Type 0 where
@@ -68,7 +70,7 @@ untouched_for guest Firmware deed item outcome e = refl
 -- an event that changes nothing
 nothing_fine : (asid : ℕ) (archive : Archive) (memory : Memory) (old : Contents) → Before asid archive memory old → Fine asid archive memory old old Untouched
 unfolding used
-nothing_fine asid archive memory old before = record { legal = tt; core = before.core; whole = before.whole; asids = λ h. refl }
+nothing_fine asid archive memory old before = record { legal = tt; core = before.core; whole = before.whole }
 
 quiet_fine : (guest asid : ℕ) (archive : Archive) (memory : Memory) (old : Contents) (part : ActorPart) (role : Role) (item : Item) (deed : Deed) (outcome : Option Outcome)
     → Before asid archive memory old → use_of deed item outcome ≡ Untouched → MoveFine guest asid archive memory old role item (quiet_move old part deed outcome)
@@ -113,7 +115,6 @@ elsewhere_fine asid archive memory old op frame index word before none = record 
   legal = tt;
   core = core_elsewhere op frame index word old.pages archive asid memory none before.core;
   whole = pages_whole op frame index word old.pages before.whole;
-  asids = λ h. refl;
 }
 
 -- an access to the frame that holds the guest's page
@@ -126,7 +127,6 @@ own_fine asid archive memory old Load gpn frame index before h below = record {
   legal = core_may_read old.pages archive asid memory gpn frame index before.core h;
   core = core_reads old.pages archive asid memory gpn frame index (word_of (old.pages frame) index) before.core h refl;
   whole = before.whole;
-  asids = λ h. refl;
 }
 own_fine asid archive memory old (Store value) gpn frame index before h below =
     let within = subst (λ (n : ℕ). index < n) (sym (before.whole frame)) below in
@@ -134,7 +134,6 @@ own_fine asid archive memory old (Store value) gpn frame index before h below =
       legal = before.core.held gpn (InFrame frame) h;
       core = core_writes old.pages archive asid memory gpn frame index value before.core h within;
       whole = pages_whole (Store value) frame index (word_of (old.pages frame) index) old.pages before.whole;
-      asids = λ h. refl;
     }
 own_fine asid archive memory old (Swap value) gpn frame index before h below =
     let within = subst (λ (n : ℕ). index < n) (sym (before.whole frame)) below in
@@ -142,7 +141,6 @@ own_fine asid archive memory old (Swap value) gpn frame index before h below =
       legal = core_may_read old.pages archive asid memory gpn frame index before.core h;
       core = core_writes old.pages archive asid memory gpn frame index value before.core h within;
       whole = pages_whole (Swap value) frame index (word_of (old.pages frame) index) old.pages before.whole;
-      asids = λ h. refl;
     }
 own_fine asid archive memory old (Compare expected next) gpn frame index before h below =
     let within = subst (λ (n : ℕ). index < n) (sym (before.whole frame)) below in
@@ -150,7 +148,6 @@ own_fine asid archive memory old (Compare expected next) gpn frame index before 
       legal = (core_may_read old.pages archive asid memory gpn frame index before.core h, refl);
       core = core_writes old.pages archive asid memory gpn frame index _ before.core h within;
       whole = pages_whole (Compare expected next) frame index (word_of (old.pages frame) index) old.pages before.whole;
-      asids = λ h. refl;
     }
 own_fine asid archive memory old (Xor value) gpn frame index before h below =
     let within = subst (λ (n : ℕ). index < n) (sym (before.whole frame)) below in
@@ -158,7 +155,6 @@ own_fine asid archive memory old (Xor value) gpn frame index before h below =
       legal = core_may_read old.pages archive asid memory gpn frame index before.core h;
       core = core_writes old.pages archive asid memory gpn frame index _ before.core h within;
       whole = pages_whole (Xor value) frame index (word_of (old.pages frame) index) old.pages before.whole;
-      asids = λ h. refl;
     }
 
 -- a private access passes on a frame that holds its page alone
@@ -218,25 +214,25 @@ hidden_quiet op gpn index = refl
 held_asid : (facts : RmpEntry) (a b gpn : ℕ) → a ≡ b → IsHeldAs facts a gpn → IsHeldAs facts b gpn
 held_asid facts a b gpn same h = subst (λ (x : ℕ). IsHeldAs facts x gpn) same h
 
-private_fine : (guest asid : ℕ) (archive : Archive) (memory : Memory) (old : Contents) (part : ActorPart) (owner vmpl npt : ℕ) (paging : Paging) (address : ℕ) (op : Op)
+private_fine : (guest asid : ℕ) (guests : List GuestSpec) (archive : Archive) (memory : Memory) (old : Contents) (part : ActorPart) (owner vmpl npt : ℕ) (paging : Paging) (address : ℕ) (op : Op)
     (gpn frame index : ℕ) (place : Place) (verdict : Verdict)
-    → Before asid archive memory old → Owns guest asid old.contexts owner → index < 512 → place.asid ≡ (old.contexts owner).asid → place.gpn ≡ gpn
+    → Before asid archive memory old → Owns guest asid guests owner → index < 512 → place.asid ≡ asid_of guests owner → place.gpn ≡ gpn
     → private_verdict (old.pages frame).facts place op ≡ verdict
     → MoveFine guest asid archive memory old (Cpu owner vmpl npt paging) (Access address op) (access_move old part (deeds.Access gpn index frame true) verdict op frame index)
 unfolding access_move use_for use_of
-private_fine guest asid archive memory old part owner vmpl npt paging address op gpn frame index place Pass before owns below asid_is gpn_is is =
+private_fine guest asid guests archive memory old part owner vmpl npt paging address op gpn frame index place Pass before owns below asid_is gpn_is is =
     let facts = (old.pages frame).facts in
     let word = word_of (old.pages frame) index in
     let passed = pass_holds facts place op is in
-    let h : IsHeldAs facts (old.contexts owner).asid gpn = subst (λ (p : ℕ). IsHeldAs facts (old.contexts owner).asid p) gpn_is (held_asid facts place.asid (old.contexts owner).asid place.gpn asid_is passed) in
+    let h : IsHeldAs facts (asid_of guests owner) gpn = subst (λ (p : ℕ). IsHeldAs facts (asid_of guests owner) p) gpn_is (held_asid facts place.asid (asid_of guests owner) place.gpn asid_is passed) in
     record {
       fine = cond_both (eqb owner guest) _ _ (Fine asid archive memory old (record old { pages = pages_after op frame index word old.pages }))
-          (λ same. own_fine asid archive memory old op gpn frame index before (held_asid facts (old.contexts owner).asid asid gpn (owns.own (eqb-true owner guest same)) h) below)
+          (λ same. own_fine asid archive memory old op gpn frame index before (held_asid facts (asid_of guests owner) asid gpn (owns.own (eqb-true owner guest same)) h) below)
           (λ different. elsewhere_fine asid archive memory old op frame index word before (λ q hq. owns.other (eqb-false owner guest different) (sym h.asid_is ∙ hq.asid_is)));
     }
-private_fine guest asid archive memory old part owner vmpl npt paging address op gpn frame index place Hidden before owns below asid_is gpn_is is =
+private_fine guest asid guests archive memory old part owner vmpl npt paging address op gpn frame index place Hidden before owns below asid_is gpn_is is =
     quiet_fine guest asid archive memory old part (Cpu owner vmpl npt paging) (Access address op) (deeds.Access gpn index frame true) (Some outcomes.Opaque) before (hidden_quiet op gpn index)
-private_fine guest asid archive memory old part owner vmpl npt paging address op gpn frame index place (Fault outcome) before owns below asid_is gpn_is is =
+private_fine guest asid guests archive memory old part owner vmpl npt paging address op gpn frame index place (Fault outcome) before owns below asid_is gpn_is is =
     quiet_fine guest asid archive memory old part (Cpu owner vmpl npt paging) (Access address op) (deeds.Access gpn index frame true) (Some outcome) before
     (private_faults (old.pages frame).facts place op outcome gpn index is)
 
@@ -253,35 +249,37 @@ host_fine guest asid archive memory old part item op frame index Hidden before i
 host_fine guest asid archive memory old part item op frame index (Fault outcome) before is = record { fine = nothing_fine asid archive memory old before }
 
 -- a guest processor's access
-flat_fine : (guest asid : ℕ) (archive : Archive) (memory : Memory) (frames : ℕ) (old : Contents) (part : ActorPart) (owner vmpl npt : ℕ) (address : ℕ) (op : Op) (stands : NestedEnd)
-    → Before asid archive memory old → Owns guest asid old.contexts owner
-    → MoveFine guest asid archive memory old (Cpu owner vmpl npt Flat) (Access address op) (flat_move frames old part (record { guest = owner; vmpl = vmpl; npt = npt }) address op stands)
+flat_fine : (guest asid : ℕ) (guests : List GuestSpec) (archive : Archive) (memory : Memory) (frames : ℕ) (old : Contents) (part : ActorPart) (owner vmpl npt : ℕ) (address : ℕ) (op : Op) (stands : NestedEnd)
+    → Before asid archive memory old → Owns guest asid guests owner
+    → MoveFine guest asid archive memory old (Cpu owner vmpl npt Flat) (Access address op) (flat_move frames guests old part (record { guest = owner; vmpl = vmpl; npt = npt }) address op stands)
 unfolding flat_move nested_move use_of
-flat_fine guest asid archive memory frames old part owner vmpl npt address op (ends.Read frame index) before owns =
+flat_fine guest asid guests archive memory frames old part owner vmpl npt address op (ends.Read frame index) before owns =
     quiet_fine guest asid archive memory old part (Cpu owner vmpl npt Flat) (Access address op) _ _ before refl
-flat_fine guest asid archive memory frames old part owner vmpl npt address op (ends.Leaf frame size) before owns =
+flat_fine guest asid guests archive memory frames old part owner vmpl npt address op (ends.Leaf frame size) before owns =
     let cpu : Processor = record { guest = owner; vmpl = vmpl; npt = npt } in
-    private_fine guest asid archive memory old part owner vmpl npt Flat address op (flat_gpn address) frame (index_of address) (flat_place (old.contexts owner).asid cpu address frame size) _
+    private_fine guest asid guests archive memory old part owner vmpl npt Flat address op (flat_gpn address) frame (index_of address) (flat_place (asid_of guests owner) cpu address frame size) _
     before owns (omega arith) refl refl refl
-flat_fine guest asid archive memory frames old part owner vmpl npt address op (ends.Fault code) before owns =
+flat_fine guest asid guests archive memory frames old part owner vmpl npt address op (ends.Fault code) before owns =
     unbuilt_fine guest asid archive memory old part (Cpu owner vmpl npt Flat) (Access address op) before
 
-flat_access_fine : (guest asid : ℕ) (archive : Archive) (memory : Memory) (frames : ℕ) (old : Contents) (part : ActorPart) (owner vmpl npt : ℕ) (address : ℕ) (op : Op) (made : List Deed)
-    → Before asid archive memory old → Owns guest asid old.contexts owner
-    → MoveFine guest asid archive memory old (Cpu owner vmpl npt Flat) (Access address op) (flat_access frames old part (record { guest = owner; vmpl = vmpl; npt = npt }) address op made)
+flat_access_fine : (guest asid : ℕ) (guests : List GuestSpec) (archive : Archive) (memory : Memory) (frames : ℕ) (old : Contents) (part : ActorPart) (owner vmpl npt : ℕ) (address : ℕ) (op : Op) (made : List Deed)
+    → Before asid archive memory old → Owns guest asid guests owner
+    → MoveFine guest asid archive memory old (Cpu owner vmpl npt Flat) (Access address op) (flat_access frames guests old part (record { guest = owner; vmpl = vmpl; npt = npt }) address op made)
 unfolding flat_access
-flat_access_fine guest asid archive memory frames old part owner vmpl npt address op [] before owns =
+flat_access_fine guest asid guests archive memory frames old part owner vmpl npt address op [] before owns =
     begin_fine guest asid archive memory old part (Cpu owner vmpl npt Flat) (Access address op) (old.contexts owner) address before
-flat_access_fine guest asid archive memory frames old part owner vmpl npt address op (deed ∷ others) before owns =
-    flat_fine guest asid archive memory frames old part owner vmpl npt address op _ before owns
+flat_access_fine guest asid guests archive memory frames old part owner vmpl npt address op (deed ∷ others) before owns =
+    flat_fine guest asid guests archive memory frames old part owner vmpl npt address op _ before owns
 
 -- so each item's move
-pub item_fine : (guest asid : ℕ) (archive : Archive) (memory : Memory) (frames : ℕ) (view : View) (part : ActorPart) (role : Role) (item : Item)
-    → Before asid archive memory view.contents → RoleOwns guest asid view.contents.contexts role
-    → MoveFine guest asid archive memory view.contents role item (item_move frames view part role item)
-unfolding item_move host_access
-item_fine guest asid archive memory frames view part (Cpu owner vmpl npt Flat) (Access address op) before owns =
-    flat_access_fine guest asid archive memory frames view.contents part owner vmpl npt address op part.deeds before owns
-item_fine guest asid archive memory frames view part Host (Access address op) before owns =
+pub item_fine : (guest asid : ℕ) (guests : List GuestSpec) (archive : Archive) (memory : Memory) (frames : ℕ) (view : View) (part : ActorPart) (role : Role) (item : Item)
+    → Before asid archive memory view.contents → RoleOwns guest asid guests role
+    → MoveFine guest asid archive memory view.contents role item (item_move frames guests view part role item)
+unfolding item_move host_access use_of
+item_fine guest asid guests archive memory frames view part (Cpu owner vmpl npt Flat) (Access address op) before owns =
+    flat_access_fine guest asid guests archive memory frames view.contents part owner vmpl npt address op part.deeds before owns
+item_fine guest asid guests archive memory frames view part Host (Access address op) before owns =
     host_fine guest asid archive memory view.contents part (Access address op) op (address / 4096) (index_of address) _ before refl
-item_fine guest asid archive memory frames view part role item before owns = unbuilt_fine guest asid archive memory view.contents part role item before
+item_fine guest asid guests archive memory frames view part role (Skip count test) before owns =
+    quiet_fine guest asid archive memory view.contents part role (Skip count test) deeds.Control (Some (skip_outcome count test part.last)) before refl
+item_fine guest asid guests archive memory frames view part role item before owns = unbuilt_fine guest asid archive memory view.contents part role item before

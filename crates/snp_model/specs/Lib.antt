@@ -31,7 +31,9 @@ pub mod Report
 pub mod Room
 pub mod Run
 pub mod ScenarioLines
+pub mod Skips
 pub mod Sound
 pub mod State
 pub mod Step
+pub mod Touches
 pub mod Verdicts

@@ -57,7 +57,3 @@ abbrev pub IsOrdered : Scenario → List ℕ → Type 0
 IsOrdered scenario schedule =
     (number : ℕ) (actor : Actor) → 0 < number → slice_get scenario.actors (number - 1) ≡ Some actor
     → AreAttempts actor.script (record { item = 0; attempt = 0 }) (events_of number (run_of scenario schedule))
-
--- each actor has passed its last item
-abbrev pub IsComplete : Scenario → List ℕ → Type 0
-IsComplete scenario schedule = (actor : ℕ) → IsUnfinished (state_after scenario schedule) actor → ⊥

@@ -14,9 +14,7 @@ use Rattle.snp_model.specs.declared.scenario.Paging.{Paging}
 use Rattle.snp_model.specs.declared.scenario.Paging.TheVariants.{Flat}
 use Rattle.snp_model.specs.declared.item.Line.{Line}
 use Rattle.snp_model.specs.declared.item.Item.{Item}
-use Rattle.snp_model.specs.declared.item.Item.TheVariants.{Access}
-use Rattle.snp_model.specs.declared.item.Op.{Op}
-use Rattle.snp_model.specs.declared.item.Op.TheVariants.{Load, Store}
+use Rattle.snp_model.specs.declared.item.Item.TheVariants.{Access, Skip}
 use Rattle.snp_model.specs.ScenarioLines.{frames_of}
 use Rattle.snp_model.specs.Attempts.{attempts_of}
 use Rattle.snp_model.specs.Reading.{order_of}
@@ -70,30 +68,32 @@ IsRole frames guests (Cpu guest vmpl npt paging) = IsCpu frames guests guest vmp
 IsRole frames guests Host = Unit {0}
 IsRole frames guests Firmware = ⊥
 
--- an item of a guest processor, with any address
-abbrev pub IsCpuOp : Op → Type 0
-IsCpuOp Load = Unit {0}
-IsCpuOp (Store value) = Unit {0}
-IsCpuOp op = ⊥
+-- a skip passes over 1 to 8,192 items
+abbrev pub IsSkip : ℕ → Type 0
+IsSkip count = (1 ≤ count) × (count ≤ 8192)
 
+-- an item of a guest processor; an access has any address that is a multiple of 8
 abbrev pub IsCpuItem : Item → Type 0
-IsCpuItem (Access address op) = (address % 8 ≡ 0) × IsCpuOp op
+IsCpuItem (Access address op) = address % 8 ≡ 0
+IsCpuItem (Skip count test) = IsSkip count
 IsCpuItem item = ⊥
 
--- an item of a hypervisor processor, with an address in memory
-abbrev pub IsHostOp : Op → Type 0
-IsHostOp (Store value) = Unit {0}
-IsHostOp op = ⊥
-
+-- an item of a hypervisor processor; an access has such an address in memory
 abbrev pub IsHostItem : ℕ → Item → Type 0
-IsHostItem frames (Access address op) = (address < 4096 * frames) × (address % 8 ≡ 0) × IsHostOp op
+IsHostItem frames (Access address op) = (address < 4096 * frames) × (address % 8 ≡ 0)
+IsHostItem frames (Skip count test) = IsSkip count
 IsHostItem frames item = ⊥
+
+-- an item of a firmware actor
+abbrev pub IsFirmwareItem : Item → Type 0
+IsFirmwareItem (Skip count test) = IsSkip count
+IsFirmwareItem item = ⊥
 
 -- an item that an actor with this role may have
 abbrev pub IsItemOf : ℕ → Role → Item → Type 0
 IsItemOf frames (Cpu guest vmpl npt paging) item = IsCpuItem item
 IsItemOf frames Host item = IsHostItem frames item
-IsItemOf frames Firmware item = ⊥
+IsItemOf frames Firmware item = IsFirmwareItem item
 
 pub record IsLineOf (frames : ℕ) (role : Role) (line : Line) : Type 0 where
   pub item : IsItemOf frames role line.item

@@ -11,9 +11,11 @@ use Rattle.snp_model.specs.declared.event.Outcome.TheVariants as outcomes
 use Rattle.snp_model.specs.declared.firmware.GuestState.{GuestState}
 use Rattle.snp_model.specs.declared.firmware.GuestState.TheVariants.{Running}
 use Rattle.snp_model.specs.declared.item.Item.{Item}
-use Rattle.snp_model.specs.declared.item.Item.TheVariants.{Access, Psmash}
+use Rattle.snp_model.specs.declared.item.Item.TheVariants.{Access, Psmash, Skip}
 use Rattle.snp_model.specs.declared.item.Line.{Line}
 use Rattle.snp_model.specs.declared.item.Op.{Op}
+use Rattle.snp_model.specs.declared.item.SkipTest.{SkipTest}
+use Rattle.snp_model.specs.declared.scenario.GuestSpec.{GuestSpec}
 use Rattle.snp_model.specs.declared.scenario.Paging.TheVariants.{Flat}
 use Rattle.snp_model.specs.declared.scenario.Role.{Role}
 use Rattle.snp_model.specs.declared.scenario.Role.TheVariants.{Cpu, Host}
@@ -22,7 +24,9 @@ use Rattle.snp_model.specs.declared.walk.NestedEnd.{NestedEnd}
 use Rattle.snp_model.specs.declared.walk.NestedEnd.TheVariants as ends
 use Rattle.snp_model.specs.declared.entry.PageSize.{PageSize}
 use Rattle.snp_model.specs.NestedWalk.{nested_end}
+use Rattle.snp_model.specs.Opening.{asid_of}
 use Rattle.snp_model.specs.Operations.{writes, outcome_of, word_after}
+use Rattle.snp_model.specs.Skips.{skip_outcome}
 use Rattle.snp_model.specs.Verdicts.{private_verdict, host_verdict}
 use Rattle.snp_model.specs.State.{Page, Pages, Context, Contents, PageLock, Computed, ActorPart, State, View, part_of, IsUnfinished, with_word, word_of}
 use Rattle.snp_model.specs.Locks.{view_of}
@@ -124,18 +128,18 @@ nested_move contents part path frame index =
     quiet_move contents part (deeds.Nested frame index value) (walk_outcome (nested_end path (nested_words part.deeds ++ value ∷ [])))
 
 -- after the beginning of an access without guest tables: the words of its nested walk, then the access
-unfoldable pub flat_move : ℕ → Contents → ActorPart → Processor → ℕ → Op → NestedEnd → Move
-flat_move frames contents part cpu address op (ends.Read frame index) = nested_move contents part (flat_path frames cpu address op) frame index
-flat_move frames contents part cpu address op (ends.Leaf frame size) =
-    let place = flat_place (contents.contexts cpu.guest).asid cpu address frame size in
+unfoldable pub flat_move : ℕ → List GuestSpec → Contents → ActorPart → Processor → ℕ → Op → NestedEnd → Move
+flat_move frames guests contents part cpu address op (ends.Read frame index) = nested_move contents part (flat_path frames cpu address op) frame index
+flat_move frames guests contents part cpu address op (ends.Leaf frame size) =
+    let place = flat_place (asid_of guests cpu.guest) cpu address frame size in
     access_move contents part (deeds.Access (flat_gpn address) (index_of address) frame true) (private_verdict (contents.pages frame).facts place op) op frame (index_of address)
-flat_move frames contents part cpu address op (ends.Fault code) = unbuilt_move contents part
+flat_move frames guests contents part cpu address op (ends.Fault code) = unbuilt_move contents part
 
 -- an access of a guest processor without guest tables
-unfoldable pub flat_access : ℕ → Contents → ActorPart → Processor → ℕ → Op → List Deed → Move
-flat_access frames contents part cpu address op [] = begin_move contents part (contents.contexts cpu.guest) address
-flat_access frames contents part cpu address op (deed ∷ others) =
-    flat_move frames contents part cpu address op (nested_end (flat_path frames cpu address op) (nested_words (deed ∷ others)))
+unfoldable pub flat_access : ℕ → List GuestSpec → Contents → ActorPart → Processor → ℕ → Op → List Deed → Move
+flat_access frames guests contents part cpu address op [] = begin_move contents part (contents.contexts cpu.guest) address
+flat_access frames guests contents part cpu address op (deed ∷ others) =
+    flat_move frames guests contents part cpu address op (nested_end (flat_path frames cpu address op) (nested_words (deed ∷ others)))
 
 -- an access of a hypervisor processor, at a system physical address
 unfoldable pub host_access : Contents → ActorPart → ℕ → Op → Move
@@ -143,12 +147,17 @@ host_access contents part address op =
     let frame = address / 4096 in
     access_move contents part (deeds.Host frame (index_of address)) (host_verdict (contents.pages frame).facts op) op frame (index_of address)
 
+-- a skip: one event, whatever the role
+abbrev pub skip_move : Contents → ActorPart → ℕ → SkipTest → Move
+skip_move contents part count test = quiet_move contents part deeds.Control (Some (skip_outcome count test part.last))
+
 -- the next event of an item, by the role of its actor
-unfoldable pub item_move : ℕ → View → ActorPart → Role → Item → Move
-item_move frames view part (Cpu guest vmpl npt Flat) (Access address op) =
-    flat_access frames view.contents part (record { guest = guest; vmpl = vmpl; npt = npt }) address op part.deeds
-item_move frames view part Host (Access address op) = host_access view.contents part address op
-item_move frames view part role item = unbuilt_move view.contents part
+unfoldable pub item_move : ℕ → List GuestSpec → View → ActorPart → Role → Item → Move
+item_move frames guests view part (Cpu guest vmpl npt Flat) (Access address op) =
+    flat_access frames guests view.contents part (record { guest = guest; vmpl = vmpl; npt = npt }) address op part.deeds
+item_move frames guests view part Host (Access address op) = host_access view.contents part address op
+item_move frames guests view part role (Skip count test) = skip_move view.contents part count test
+item_move frames guests view part role item = unbuilt_move view.contents part
 
 -- whether an item is attempted again after an outcome: something was in use, and retries are left
 abbrev pub tries_again : Line → ℕ → Outcome → Bool
@@ -201,18 +210,18 @@ abbrev pub stepped : ActorPart → Move → Stepped
 stepped part move =
     record { event = record { item = part.item; attempt = part.attempt; deed = move.deed; outcome = move.outcome }; part = part_after part move move.outcome; contents = move.contents }
 
--- the step of an actor, from its own part and what it may look at
-abbrev pub step_of : ℕ → ActorPart → View → Stepped
-step_of frames part view = stepped part (item_move frames view part part.role (line_at part.script part.item).item)
+-- the step of an actor, from the size of memory, the declared guests, the actor's own part and what it may look at
+abbrev pub step_of : ℕ → List GuestSpec → ActorPart → View → Stepped
+step_of frames guests part view = stepped part (item_move frames guests view part part.role (line_at part.script part.item).item)
 
 -- the event that an actor makes in a state
 unfoldable pub event_of : State → ℕ → Event
-event_of m actor = (step_of m.frames (part_of m actor) (view_of m)).event
+event_of m actor = (step_of m.frames m.guests (part_of m actor) (view_of m)).event
 
 -- the state after it
 unfoldable pub after : State → ℕ → State
 after m actor =
-    let step = step_of m.frames (part_of m actor) (view_of m) in
+    let step = step_of m.frames m.guests (part_of m actor) (view_of m) in
     record m { contents = step.contents; actors = slice_set m.actors (actor - 1) step.part }
 
 -- an unfinished actor's step leads from a state to another, with this event: there is exactly one such state and event

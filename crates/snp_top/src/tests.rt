@@ -351,3 +351,51 @@ fn a_replay_and_its_failures(rt: HostRuntime) -> Result<(), Fail> {
     }
     Ok(())
 }
+
+// A hypervisor's processor at a guest's page and at a free frame, with skips of each test.
+const EXCHANGES: &[u8] = b"snp 1
+regions 1
+guest 1 opened asid 1 iv 0 key 0000000000000000000000000000000000000000000000000000000000000000
+page 8 of 1 at 0 4k valid 0 0 0
+actor 1 host
+swap 0x8010 5
+load 0x8010
+skip 1 if value 0
+swap 0x9000 7
+cas 0x9000 7 8
+skip 1 if value 7
+store 0x9000 1
+xor 0x9000 3
+cas 0x9000 8 1
+skip 8192 if bad
+load 0x9000
+order 1*9
+end
+";
+
+const THEIR_REPORT: &[u8] = b"snp-report 1
+0 1 0.0 host 8:2 pf 0x80000003
+1 1 1.0 host 8:2 opaque
+2 1 2.0 skip next
+3 1 3.0 host 9:0 swap 0x0
+4 1 4.0 host 9:0 cas 0x7 yes
+5 1 5.0 skip skipped 1
+6 1 7.0 host 9:0 swap 0x8
+7 1 8.0 host 9:0 cas 0xb no
+8 1 9.0 skip skipped 8192
+order 1*9
+guest 1 running -
+end 9
+";
+
+#[test]
+fn a_replay_of_exchanges_and_skips(rt: HostRuntime) -> Result<(), Fail> {
+    let alloc = rt.alloc();
+    let words = vec![in alloc; String::from_str(alloc, "replay")?]?;
+    let text = Vec::from_slice(alloc, EXCHANGES)?;
+    let mut source = MemorySource::over(text, 4096, Vec::new(alloc));
+    let mut sink = MemorySink::with_room(alloc, 1000, Vec::new(alloc))?;
+    assert_eq!(rt; snp_batch(alloc, &words, &mut source, &mut sink), 0);
+    assert!(rt; sink.bytes() == THEIR_REPORT);
+    Ok(())
+}

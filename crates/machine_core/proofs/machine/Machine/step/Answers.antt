@@ -1,34 +1,45 @@
-use Rattle.std.proofs.Common.{sym, subst, ap, ◌∙◌}
+use Rattle.std.proofs.Common.{◌≡◌, ℕ, ◌*◌, length, ap, sym, ◌∙◌, subst}
 use Rattle.snp_model.specs.State.{IsUnfinished}
 use Rattle.snp_model.specs.Step.{event_of, after}
 use Rattle.machine_core.specs.Machine.{MachineImage, state_of}
-use Rattle.machine_core.specs.Memory.{contents_of}
-use Rattle.machine_core.proofs.MachineLaws.{made, event_is, after_is, machine_after, sound_read}
+use Rattle.machine_core.proofs.MachineLaws.{after_made, event_made, has_read, machine_made, made}
 use Rattle.machine_core.proofs.machine.Machine.step.Goals as goal
+
+pub advance-requires-clause-has : goal.advance-requires-clause-has
+advance-requires-clause-has c =
+    let inside = c.self.inside in
+    let bays = inside.parts.bays in
+    let frames : 512 * c.len.result ≡ 512 * length bays.items = ap (λ (n : ℕ). 512 * n) (c.len.ensures ∙ bays.ok.0) in
+    let unfinished = subst (λ (m : MachineImage). IsUnfinished (state_of m) c.args.actor) (sym c.self.view_is) c.requires in
+    has_read bays.items inside.guests inside.actors.items c.args.actor (512 * c.len.result) c.index_mut-part.result.now frames c.index_mut-part.ensures.value unfinished c.self.invariant
 
 pub invariant_of-self : goal.invariant_of-self
 invariant_of-self c =
     let inside = c.self.inside in
+    let bays = inside.parts.bays in
+    let frames : 512 * c.len.result ≡ 512 * length bays.items = ap (λ (n : ℕ). 512 * n) (c.len.ensures ∙ bays.ok.0) in
     let unfinished = subst (λ (m : MachineImage). IsUnfinished (state_of m) c.args.actor) (sym c.self.view_is) c.requires in
-    let makes = made inside.memory c.next_event-shown.new.memory inside.guests c.as_slice.result.now inside.actors.items c.args.actor c.index_mut-part.result.now c.next_event-shown.result unfinished c.index_mut-part.ensures.value c.as_slice.ensures c.next_event-shown.ensures.moves in
-    let sound = sound_read inside.memory c.next_event-shown.new.memory inside.guests inside.actors.items c.args.actor c.index_mut-part.result.now c.next_event-shown.result makes unfinished c.self.invariant in
-    machine_after inside.memory c.next_event-shown.new.memory inside.guests inside.actors.items c.args.actor c.index_mut-part.result.now c.take_down.new.self c.next_event-shown.result makes (c.take_down.ensures.part (contents_of c.next_event-shown.new.memory inside.guests)) c.next_event-shown.ensures.frames unfinished sound c.self.invariant
+    let step = made bays.items c.advance.new.parts.bays.items inside.guests c.as_slice.result.now inside.actors.items c.args.actor (512 * c.len.result) c.index_mut-part.result.now c.advance.new.actor c.advance.result frames c.as_slice.ensures unfinished c.index_mut-part.ensures.value c.advance.ensures.event c.advance.ensures.part c.advance.ensures.contents c.advance.ensures.kept in
+    machine_made bays.items c.advance.new.parts.bays.items inside.guests inside.actors.items c.args.actor c.index_mut-part.result.now c.advance.new.actor c.advance.result step unfinished c.self.invariant
 
 pub returns-clause-event : goal.returns-clause-event
 returns-clause-event c =
     let inside = c.self.inside in
+    let bays = inside.parts.bays in
+    let frames : 512 * c.len.result ≡ 512 * length bays.items = ap (λ (n : ℕ). 512 * n) (c.len.ensures ∙ bays.ok.0) in
     let unfinished = subst (λ (m : MachineImage). IsUnfinished (state_of m) c.args.actor) (sym c.self.view_is) c.requires in
-    let makes = made inside.memory c.next_event-shown.new.memory inside.guests c.as_slice.result.now inside.actors.items c.args.actor c.index_mut-part.result.now c.next_event-shown.result unfinished c.index_mut-part.ensures.value c.as_slice.ensures c.next_event-shown.ensures.moves in
-    c.take_down.ensures.event
-    ∙ sym (event_is inside.memory c.next_event-shown.new.memory inside.guests inside.actors.items c.args.actor c.index_mut-part.result.now c.next_event-shown.result makes)
+    let step = made bays.items c.advance.new.parts.bays.items inside.guests c.as_slice.result.now inside.actors.items c.args.actor (512 * c.len.result) c.index_mut-part.result.now c.advance.new.actor c.advance.result frames c.as_slice.ensures unfinished c.index_mut-part.ensures.value c.advance.ensures.event c.advance.ensures.part c.advance.ensures.contents c.advance.ensures.kept in
+    event_made bays.items c.advance.new.parts.bays.items inside.guests inside.actors.items c.args.actor c.index_mut-part.result.now c.advance.new.actor c.advance.result step
     ∙ ap (λ (m : MachineImage). event_of (state_of m) c.args.actor) c.self.view_is
 
 pub returns-clause-after : goal.returns-clause-after
 returns-clause-after c =
     let inside = c.self.inside in
+    let bays = inside.parts.bays in
+    let frames : 512 * c.len.result ≡ 512 * length bays.items = ap (λ (n : ℕ). 512 * n) (c.len.ensures ∙ bays.ok.0) in
     let unfinished = subst (λ (m : MachineImage). IsUnfinished (state_of m) c.args.actor) (sym c.self.view_is) c.requires in
-    let makes = made inside.memory c.next_event-shown.new.memory inside.guests c.as_slice.result.now inside.actors.items c.args.actor c.index_mut-part.result.now c.next_event-shown.result unfinished c.index_mut-part.ensures.value c.as_slice.ensures c.next_event-shown.ensures.moves in
-    after_is inside.memory c.next_event-shown.new.memory inside.guests inside.actors.items c.args.actor c.index_mut-part.result.now c.take_down.new.self c.next_event-shown.result makes (c.take_down.ensures.part (contents_of c.next_event-shown.new.memory inside.guests)) c.next_event-shown.ensures.frames
+    let step = made bays.items c.advance.new.parts.bays.items inside.guests c.as_slice.result.now inside.actors.items c.args.actor (512 * c.len.result) c.index_mut-part.result.now c.advance.new.actor c.advance.result frames c.as_slice.ensures unfinished c.index_mut-part.ensures.value c.advance.ensures.event c.advance.ensures.part c.advance.ensures.contents c.advance.ensures.kept in
+    after_made bays.items c.advance.new.parts.bays.items inside.guests inside.actors.items c.args.actor c.index_mut-part.result.now c.advance.new.actor c.advance.result step
     ∙ ap (λ (m : MachineImage). after (state_of m) c.args.actor) c.self.view_is
 
 pub returns-clause-step : goal.returns-clause-step

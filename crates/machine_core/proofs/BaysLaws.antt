@@ -1,0 +1,254 @@
+-- What a written bay leaves of the flat memory.
+use Rattle.std.proofs.Common.{◌≡◌, ◌≢◌, ℕ, ◌/◌, ◌%◌, ◌<◌, ◌≤◌, Bool, true, false, cond, List, [], length, get_or, set, Option, Some, refl, sym, ap, ◌∙◌, subst, ⊎_elim, arith}
+use Rattle.std.proofs.lemmas.Bool.{cases_eq, cases_lt}
+use Rattle.std.proofs.lemmas.Bool.Decides.{nat_tests}
+use Rattle.std.proofs.lemmas.List.{get_or-set_same, get_or-set_other, set_past, get_or_past}
+use Rattle.snp_model.specs.declared.access.Verdict.{Verdict}
+use Rattle.snp_model.specs.declared.access.Verdict.TheVariants.{Pass, Hidden, Fault}
+use Rattle.snp_model.specs.declared.entry.RmpEntry.{RmpEntry}
+use Rattle.snp_model.specs.declared.event.Deed.{Deed}
+use Rattle.snp_model.specs.declared.event.Outcome.{Outcome}
+use Rattle.snp_model.specs.declared.event.Outcome.TheVariants as outcomes
+use Rattle.snp_model.specs.declared.item.Op.{Op}
+use Rattle.snp_model.specs.declared.scenario.GuestSpec.{GuestSpec}
+use Rattle.snp_model.specs.Accesses.{answer_by, memory_by}
+use Rattle.snp_model.specs.Entries.{facts_at}
+use Rattle.snp_model.specs.Facts.{free_entry}
+use Rattle.snp_model.specs.Operations.{writes, outcome_of, word_after}
+use Rattle.snp_model.specs.Opening.{with_word_spec}
+use Rattle.snp_model.specs.RegionWords.{page_at, word_at, word_set}
+use Rattle.snp_model.specs.State.{Page, ActorPart, with_word, word_of}
+use Rattle.snp_model.specs.Step.{access_move, memory_move, quiet_move, table_word}
+use Rattle.machine_core.specs.declared.bay.Bay.{Bay}
+use Rattle.machine_core.specs.Bays.{Bays, contents_of, facts_of, page_in, pages_of, put, with_entry, words_of}
+use Rattle.machine_core.specs.Moves.{move_by}
+
+put_at : (bays : Bays) (region : ℕ) (bay : Bay) (r : ℕ) → r ≡ region → put region bay bays r ≡ Some bay
+put_at bays region bay r same = grind (arith, nat_tests)
+
+put_off : (bays : Bays) (region : ℕ) (bay : Bay) (r : ℕ) → r ≢ region → put region bay bays r ≡ bays r
+put_off bays region bay r other = grind (arith, nat_tests)
+
+-- the bay that is there, put again
+put_there : (bays : Bays) (region : ℕ) (bay : Bay) → bays region ≡ Some bay → (r : ℕ) → put region bay bays r ≡ bays r
+put_there bays region bay there r =
+    ⊎_elim
+    (λ (same : r ≡ region). put_at bays region bay r same ∙ sym there ∙ ap bays (sym same))
+    (λ (other : r ≢ region). put_off bays region bay r other)
+    (cases_eq r region)
+
+put_same : (bays : Bays) (region : ℕ) (bay : Bay) → bays region ≡ Some bay → put region bay bays ≡ bays
+put_same bays region bay there = λ i r. put_there bays region bay there r i
+
+-- the page of a frame whose bay is there
+pub page_there : (bays : Bays) (frame : ℕ) (bay : Bay) → bays (frame / 512) ≡ Some bay → pages_of bays frame ≡ page_in (Some bay) (frame % 512)
+unfolding pages_of
+page_there bays frame bay there = ap (λ (o : Option Bay). page_in o (frame % 512)) there
+
+-- the page of a frame of a written bay
+page_put : (bays : Bays) (frame : ℕ) (bay : Bay) → pages_of (put (frame / 512) bay bays) frame ≡ page_in (Some bay) (frame % 512)
+unfolding pages_of
+page_put bays frame bay = ap (λ (o : Option Bay). page_in o (frame % 512)) (put_at bays (frame / 512) bay (frame / 512) refl)
+
+-- a bay in which the page of one frame alone may have changed
+abbrev OtherSlotsStay : Bay → Bay → ℕ → Type 0
+OtherSlotsStay old new slot = (s : ℕ) → s ≢ slot → page_in (Some new) s ≡ page_in (Some old) s
+
+off_slot : (frame f : ℕ) → f ≢ frame → f / 512 ≡ frame / 512 → f % 512 ≢ frame % 512
+off_slot frame f other same slot = other (omega arith)
+
+page_off : (bays : Bays) (frame : ℕ) (old new : Bay) → bays (frame / 512) ≡ Some old → OtherSlotsStay old new (frame % 512) → (f : ℕ) → f ≢ frame → pages_of (put (frame / 512) new bays) f ≡ pages_of bays f
+unfolding pages_of
+page_off bays frame old new there stay f other =
+    ⊎_elim
+    (λ (same : f / 512 ≡ frame / 512).
+    ap (λ (o : Option Bay). page_in o (f % 512)) (put_at bays (frame / 512) new (f / 512) same)
+    ∙ stay (f % 512) (off_slot frame f other same)
+    ∙ ap (λ (o : Option Bay). page_in o (f % 512)) (sym there ∙ ap bays (sym same)))
+    (λ (apart : f / 512 ≢ frame / 512). ap (λ (o : Option Bay). page_in o (f % 512)) (put_off bays (frame / 512) new (f / 512) apart))
+    (cases_eq (f / 512) (frame / 512))
+
+-- a word that is set is there, also past the end, where there is none
+word_set_there : (pages : List (List ℕ)) (slot index value : ℕ) → page_at (word_set pages slot index value) slot ≡ set (page_at pages slot) index value
+word_set_there pages slot index value =
+    ⊎_elim
+    (λ (within : slot < length pages). get_or-set_same pages slot (set (page_at pages slot) index value) [] within)
+    (λ (past : length pages ≤ slot).
+    let none : page_at pages slot ≡ [] = get_or_past pages slot [] past in
+    ap (λ (ps : List (List ℕ)). page_at ps slot) (set_past pages slot (set (page_at pages slot) index value) past) ∙ none ∙ ap (λ (ws : List ℕ). set ws index value) (sym none))
+    (cases_lt slot (length pages))
+
+abbrev with_memory : Bay → List (List ℕ) → Bay
+with_memory bay memory = record { memory = memory; rmp = bay.rmp }
+
+memory_stays : (bay : Bay) (slot index value : ℕ) → OtherSlotsStay bay (with_memory bay (word_set bay.memory slot index value)) slot
+memory_stays bay slot index value s other =
+    λ i. record { facts = facts_at bay.rmp s; words = get_or-set_other bay.memory slot s (set (page_at bay.memory slot) index value) [] other i }
+
+with_word_at : (bays : Bays) (frame index value f : ℕ) → f ≡ frame → with_word frame index value (pages_of bays) f ≡ record { facts = (pages_of bays f).facts; words = set (pages_of bays f).words index value }
+with_word_at bays frame index value f same = grind (arith, nat_tests)
+
+with_word_off : (bays : Bays) (frame index value f : ℕ) → f ≢ frame → with_word frame index value (pages_of bays) f ≡ pages_of bays f
+with_word_off bays frame index value f other = grind (arith, nat_tests)
+
+words_at : (bays : Bays) (frame index value : ℕ) (bay : Bay) → bays (frame / 512) ≡ Some bay → pages_of (put (frame / 512) (with_memory bay (word_set bay.memory (frame % 512) index value)) bays) frame ≡ with_word frame index value (pages_of bays) frame
+words_at bays frame index value bay there =
+    page_put bays frame (with_memory bay (word_set bay.memory (frame % 512) index value))
+    ∙ (λ i. record { facts = facts_at bay.rmp (frame % 512); words = word_set_there bay.memory (frame % 512) index value i })
+    ∙ ap (λ (p : Page). let page : Page = record { facts = p.facts; words = set p.words index value } in page) (sym (page_there bays frame bay there))
+    ∙ sym (with_word_at bays frame index value frame refl)
+
+words_each : (bays : Bays) (frame index value : ℕ) (bay : Bay) → bays (frame / 512) ≡ Some bay → (f : ℕ) → pages_of (put (frame / 512) (with_memory bay (word_set bay.memory (frame % 512) index value)) bays) f ≡ with_word frame index value (pages_of bays) f
+words_each bays frame index value bay there f =
+    ⊎_elim
+    (λ (same : f ≡ frame). subst (λ (n : ℕ). pages_of (put (frame / 512) (with_memory bay (word_set bay.memory (frame % 512) index value)) bays) n ≡ with_word frame index value (pages_of bays) n) (sym same) (words_at bays frame index value bay there))
+    (λ (other : f ≢ frame). page_off bays frame bay (with_memory bay (word_set bay.memory (frame % 512) index value)) there (memory_stays bay (frame % 512) index value) f other ∙ sym (with_word_off bays frame index value f other))
+    (cases_eq f frame)
+
+-- a written word
+pub words_view : (bays : Bays) (frame index value : ℕ) (bay : Bay) → bays (frame / 512) ≡ Some bay → pages_of (put (frame / 512) (with_memory bay (word_set bay.memory (frame % 512) index value)) bays) ≡ with_word frame index value (pages_of bays)
+words_view bays frame index value bay there = λ i f. words_each bays frame index value bay there f i
+
+-- the same, by words and entries
+word_spec_each : (bays : Bays) (frame index value f : ℕ) → (with_word frame index value (pages_of bays) f).words ≡ with_word_spec (record { frame = frame; index = index; value = value }) (words_of bays) f
+unfolding words_of
+word_spec_each bays frame index value f = grind (arith, nat_tests)
+
+word_facts_each : (bays : Bays) (frame index value f : ℕ) → (with_word frame index value (pages_of bays) f).facts ≡ facts_of bays f
+unfolding facts_of
+word_facts_each bays frame index value f = grind (arith, nat_tests)
+
+-- a bay with another memory was put
+pub record IsStored (bays new_bays : Bays) (frame index value : ℕ) (bay : Bay) (memory : List (List ℕ)) : Type 0 where
+  pub there : bays (frame / 512) ≡ Some bay
+  pub memory_is : memory ≡ word_set bay.memory (frame % 512) index value
+  pub bays_are : new_bays ≡ put (frame / 512) (with_memory bay memory) bays
+
+stored_pages : (bays new_bays : Bays) (frame index value : ℕ) (bay : Bay) (memory : List (List ℕ)) → IsStored bays new_bays frame index value bay memory → pages_of new_bays ≡ with_word frame index value (pages_of bays)
+stored_pages bays new_bays frame index value bay memory stored =
+    ap pages_of stored.bays_are
+    ∙ ap (λ (m : List (List ℕ)). pages_of (put (frame / 512) (with_memory bay m) bays)) stored.memory_is
+    ∙ words_view bays frame index value bay stored.there
+
+pub stored_words : (bays new_bays : Bays) (frame index value : ℕ) (bay : Bay) (memory : List (List ℕ)) → IsStored bays new_bays frame index value bay memory → words_of new_bays ≡ with_word_spec (record { frame = frame; index = index; value = value }) (words_of bays)
+unfolding words_of
+stored_words bays new_bays frame index value bay memory stored =
+    (λ i f. (stored_pages bays new_bays frame index value bay memory stored i f).words) ∙ (λ i f. word_spec_each bays frame index value f i)
+
+pub stored_facts : (bays new_bays : Bays) (frame index value : ℕ) (bay : Bay) (memory : List (List ℕ)) → IsStored bays new_bays frame index value bay memory → facts_of new_bays ≡ facts_of bays
+unfolding facts_of
+stored_facts bays new_bays frame index value bay memory stored =
+    (λ i f. (stored_pages bays new_bays frame index value bay memory stored i f).facts) ∙ (λ i f. word_facts_each bays frame index value f i)
+
+-- a bay with another entry was put
+pub record IsWritten (bays new_bays : Bays) (frame : ℕ) (entry : RmpEntry) (bay new : Bay) : Type 0 where
+  pub there : bays (frame / 512) ≡ Some bay
+  pub whole : length bay.rmp.facts ≡ 512
+  pub memory_is : new.memory ≡ bay.memory
+  pub facts_are : new.rmp.facts ≡ set bay.rmp.facts (frame % 512) entry
+  pub bays_are : new_bays ≡ put (frame / 512) new bays
+
+entry_stays : (bays new_bays : Bays) (frame : ℕ) (entry : RmpEntry) (bay new : Bay) → IsWritten bays new_bays frame entry bay new → OtherSlotsStay bay new (frame % 512)
+entry_stays bays new_bays frame entry bay new written s other =
+    λ i. record {
+      facts = (ap (λ (fs : List RmpEntry). get_or fs s free_entry) written.facts_are ∙ get_or-set_other bay.rmp.facts (frame % 512) s entry free_entry other) i;
+      words = page_at (written.memory_is i) s;
+    }
+
+entry_page : (bays new_bays : Bays) (frame : ℕ) (entry : RmpEntry) (bay new : Bay) → IsWritten bays new_bays frame entry bay new → pages_of new_bays frame ≡ record { facts = entry; words = (pages_of bays frame).words }
+entry_page bays new_bays frame entry bay new written =
+    let within : frame % 512 < length bay.rmp.facts = omega (arith, written.whole) in
+    ap (λ (bs : Bays). pages_of bs frame) written.bays_are
+    ∙ page_put bays frame new
+    ∙ (λ i. record {
+      facts = (ap (λ (fs : List RmpEntry). get_or fs (frame % 512) free_entry) written.facts_are ∙ get_or-set_same bay.rmp.facts (frame % 512) entry free_entry within) i;
+      words = page_at (written.memory_is i) (frame % 512);
+    })
+    ∙ ap (λ (p : Page). let page : Page = record { facts = entry; words = p.words } in page) (sym (page_there bays frame bay written.there))
+
+entry_off : (bays new_bays : Bays) (frame : ℕ) (entry : RmpEntry) (bay new : Bay) → IsWritten bays new_bays frame entry bay new → (f : ℕ) → f ≢ frame → pages_of new_bays f ≡ pages_of bays f
+entry_off bays new_bays frame entry bay new written f other =
+    ap (λ (bs : Bays). pages_of bs f) written.bays_are
+    ∙ page_off bays frame bay new written.there (entry_stays bays new_bays frame entry bay new written) f other
+
+with_entry_at : (frame : ℕ) (entry : RmpEntry) (facts : ℕ → RmpEntry) (f : ℕ) → f ≡ frame → with_entry frame entry facts f ≡ entry
+with_entry_at frame entry facts f same = grind (arith, nat_tests)
+
+with_entry_off : (frame : ℕ) (entry : RmpEntry) (facts : ℕ → RmpEntry) (f : ℕ) → f ≢ frame → with_entry frame entry facts f ≡ facts f
+with_entry_off frame entry facts f other = grind (arith, nat_tests)
+
+written_fact : (bays new_bays : Bays) (frame : ℕ) (entry : RmpEntry) (bay new : Bay) → IsWritten bays new_bays frame entry bay new → (f : ℕ) → facts_of new_bays f ≡ with_entry frame entry (facts_of bays) f
+unfolding facts_of
+written_fact bays new_bays frame entry bay new written f =
+    ⊎_elim
+    (λ (same : f ≡ frame).
+    ap (λ (n : ℕ). (pages_of new_bays n).facts) same
+    ∙ ap (λ (p : Page). p.facts) (entry_page bays new_bays frame entry bay new written)
+    ∙ sym (with_entry_at frame entry (λ (n : ℕ). (pages_of bays n).facts) f same))
+    (λ (other : f ≢ frame).
+    ap (λ (p : Page). p.facts) (entry_off bays new_bays frame entry bay new written f other)
+    ∙ sym (with_entry_off frame entry (λ (n : ℕ). (pages_of bays n).facts) f other))
+    (cases_eq f frame)
+
+written_word : (bays new_bays : Bays) (frame : ℕ) (entry : RmpEntry) (bay new : Bay) → IsWritten bays new_bays frame entry bay new → (f : ℕ) → words_of new_bays f ≡ words_of bays f
+unfolding words_of
+written_word bays new_bays frame entry bay new written f =
+    ⊎_elim
+    (λ (same : f ≡ frame).
+    ap (λ (n : ℕ). (pages_of new_bays n).words) same
+    ∙ ap (λ (p : Page). p.words) (entry_page bays new_bays frame entry bay new written)
+    ∙ ap (λ (n : ℕ). (pages_of bays n).words) (sym same))
+    (λ (other : f ≢ frame). ap (λ (p : Page). p.words) (entry_off bays new_bays frame entry bay new written f other))
+    (cases_eq f frame)
+
+pub written_facts : (bays new_bays : Bays) (frame : ℕ) (entry : RmpEntry) (bay new : Bay) → IsWritten bays new_bays frame entry bay new → facts_of new_bays ≡ with_entry frame entry (facts_of bays)
+written_facts bays new_bays frame entry bay new written = λ i f. written_fact bays new_bays frame entry bay new written f i
+
+pub written_words : (bays new_bays : Bays) (frame : ℕ) (entry : RmpEntry) (bay new : Bay) → IsWritten bays new_bays frame entry bay new → words_of new_bays ≡ words_of bays
+written_words bays new_bays frame entry bay new written = λ i f. written_word bays new_bays frame entry bay new written f i
+
+-- what the nested walker sees of a frame whose bay is there
+pub table_word_there : (bays : Bays) (frame index : ℕ) (bay : Bay) → bays (frame / 512) ≡ Some bay → table_word (page_in (Some bay) (frame % 512)) index ≡ table_word (pages_of bays frame) index
+table_word_there bays frame index bay there = ap (λ (p : Page). table_word p index) (sym (page_there bays frame bay there))
+
+-- memory after an operation whose access passes
+after_view : (writing : Bool) (bays : Bays) (frame index value : ℕ) (bay : Bay) → bays (frame / 512) ≡ Some bay
+    → cond writing (with_word frame index value (pages_of bays)) (pages_of bays) ≡ pages_of (put (frame / 512) (with_memory bay (cond writing (word_set bay.memory (frame % 512) index value) bay.memory)) bays)
+after_view true bays frame index value bay there = sym (words_view bays frame index value bay there)
+after_view false bays frame index value bay there = ap pages_of (sym (put_same bays (frame / 512) bay there))
+
+-- the move of an access with a verdict, over the bay of its frame
+access_view : (bays : Bays) (guests : List GuestSpec) (part : ActorPart) (deed : Deed) (frame index : ℕ) (bay : Bay) (op : Op) (verdict : Verdict) → bays (frame / 512) ≡ Some bay
+    → access_move (contents_of bays guests) part deed verdict op frame index
+    ≡ move_by (record { deed = deed; outcome = Some (answer_by verdict op (word_at bay.memory (frame % 512) index)) }) (contents_of (put (frame / 512) (with_memory bay (memory_by verdict op bay.memory (frame % 512) index)) bays) guests) part
+unfolding access_move
+access_view bays guests part deed frame index bay op Pass there =
+    let word_is : word_of (pages_of bays frame) index ≡ word_at bay.memory (frame % 512) index = ap (λ (p : Page). word_of p index) (page_there bays frame bay there) in
+    let pages = λ (word : ℕ). cond (writes op) (with_word frame index (word_after op word) (pages_of bays)) (pages_of bays) in
+    ap (λ (word : ℕ). memory_move (contents_of bays guests) part deed (Some (outcome_of op word)) (pages word)) word_is
+    ∙ ap (memory_move (contents_of bays guests) part deed (Some (outcome_of op (word_at bay.memory (frame % 512) index)))) (after_view (writes op) bays frame index (word_after op (word_at bay.memory (frame % 512) index)) bay there)
+access_view bays guests part deed frame index bay op Hidden there =
+    ap (λ (bs : Bays). quiet_move (contents_of bs guests) part deed (Some outcomes.Opaque)) (sym (put_same bays (frame / 512) bay there))
+access_view bays guests part deed frame index bay op (Fault outcome) there =
+    ap (λ (bs : Bays). quiet_move (contents_of bs guests) part deed (Some outcome)) (sym (put_same bays (frame / 512) bay there))
+
+-- a checked access to a word of the bay of a frame was made, and the bay was put back
+pub record IsAccessed (bays new_bays : Bays) (frame slot index : ℕ) (bay : Bay) (memory : List (List ℕ)) (op : Op) (verdict : RmpEntry → Verdict) (outcome : Outcome) : Type 0 where
+  pub there : bays (frame / 512) ≡ Some bay
+  pub slot_is : slot ≡ frame % 512
+  pub outcome_is : outcome ≡ answer_by (verdict (facts_at bay.rmp slot)) op (word_at bay.memory slot index)
+  pub memory_is : memory ≡ memory_by (verdict (facts_at bay.rmp slot)) op bay.memory slot index
+  pub bays_are : new_bays ≡ put (frame / 512) (with_memory bay memory) bays
+
+pub accessed : (bays new_bays : Bays) (frame slot index : ℕ) (bay : Bay) (memory : List (List ℕ)) (op : Op) (verdict : RmpEntry → Verdict) (outcome : Outcome) → IsAccessed bays new_bays frame slot index bay memory op verdict outcome
+    → (guests : List GuestSpec) (part : ActorPart) (deed : Deed)
+    → access_move (contents_of bays guests) part deed (verdict (pages_of bays frame).facts) op frame index ≡ move_by (record { deed = deed; outcome = Some outcome }) (contents_of new_bays guests) part
+accessed bays new_bays frame slot index bay memory op verdict outcome made guests part deed =
+    let outcome_at = λ (s : ℕ). answer_by (verdict (facts_at bay.rmp s)) op (word_at bay.memory s index) in
+    let memory_at = λ (s : ℕ). memory_by (verdict (facts_at bay.rmp s)) op bay.memory s index in
+    ap (λ (p : Page). access_move (contents_of bays guests) part deed (verdict p.facts) op frame index) (page_there bays frame bay made.there)
+    ∙ access_view bays guests part deed frame index bay op (verdict (facts_at bay.rmp (frame % 512))) made.there
+    ∙ ap (λ (s : ℕ). move_by (record { deed = deed; outcome = Some (outcome_at s) }) (contents_of (put (frame / 512) (with_memory bay (memory_at s)) bays) guests) part) (sym made.slot_is)
+    ∙ ap (λ (o : Outcome). move_by (record { deed = deed; outcome = Some o }) (contents_of (put (frame / 512) (with_memory bay (memory_at slot)) bays) guests) part) (sym made.outcome_is)
+    ∙ ap (λ (m : List (List ℕ)). move_by (record { deed = deed; outcome = Some outcome }) (contents_of (put (frame / 512) (with_memory bay m) bays) guests) part) (sym made.memory_is)
+    ∙ ap (λ (bs : Bays). move_by (record { deed = deed; outcome = Some outcome }) (contents_of bs guests) part) (sym made.bays_are)
