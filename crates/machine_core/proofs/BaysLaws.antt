@@ -3,6 +3,7 @@ use Rattle.std.proofs.Common.{◌≡◌, ◌≢◌, ℕ, ◌/◌, ◌%◌, ◌<�
 use Rattle.std.proofs.lemmas.Bool.{cases_eq, cases_lt}
 use Rattle.std.proofs.lemmas.Bool.Decides.{nat_tests}
 use Rattle.std.proofs.lemmas.List.{get_or-set_same, get_or-set_other, set_past, get_or_past}
+use Rattle.snp_model.specs.declared.access.Place.{Place}
 use Rattle.snp_model.specs.declared.access.Verdict.{Verdict}
 use Rattle.snp_model.specs.declared.access.Verdict.TheVariants.{Pass, Hidden, Fault}
 use Rattle.snp_model.specs.declared.entry.RmpEntry.{RmpEntry}
@@ -10,6 +11,7 @@ use Rattle.snp_model.specs.declared.event.Deed.{Deed}
 use Rattle.snp_model.specs.declared.event.Outcome.{Outcome}
 use Rattle.snp_model.specs.declared.event.Outcome.TheVariants as outcomes
 use Rattle.snp_model.specs.declared.item.Op.{Op}
+use Rattle.snp_model.specs.declared.item.Op.TheVariants.{Load}
 use Rattle.snp_model.specs.declared.scenario.GuestSpec.{GuestSpec}
 use Rattle.snp_model.specs.Accesses.{answer_by, memory_by}
 use Rattle.snp_model.specs.Entries.{facts_at}
@@ -21,7 +23,8 @@ use Rattle.snp_model.specs.State.{Page, ActorPart, with_word, word_of}
 use Rattle.snp_model.specs.Step.{access_move, memory_move, quiet_move, table_word}
 use Rattle.machine_core.specs.declared.bay.Bay.{Bay}
 use Rattle.machine_core.specs.Bays.{Bays, contents_of, facts_of, page_in, pages_of, put, with_entry, words_of}
-use Rattle.machine_core.specs.Moves.{move_by}
+use Rattle.snp_model.specs.Verdicts.{private_verdict}
+use Rattle.machine_core.specs.Moves.{move_by, table_load}
 
 put_at : (bays : Bays) (region : ℕ) (bay : Bay) (r : ℕ) → r ≡ region → put region bay bays r ≡ Some bay
 put_at bays region bay r same = grind (arith, nat_tests)
@@ -206,6 +209,12 @@ written_facts bays new_bays frame entry bay new written = λ i f. written_fact b
 
 pub written_words : (bays new_bays : Bays) (frame : ℕ) (entry : RmpEntry) (bay new : Bay) → IsWritten bays new_bays frame entry bay new → words_of new_bays ≡ words_of bays
 written_words bays new_bays frame entry bay new written = λ i f. written_word bays new_bays frame entry bay new written f i
+
+-- a word of a guest table
+pub table_load_there : (bays : Bays) (frame : ℕ) (at : Place) (bay : Bay) → bays (frame / 512) ≡ Some bay
+    → let page = page_in (Some bay) (frame % 512) in
+    table_load (private_verdict page.facts at Load) (word_of page at.index) ≡ table_load (private_verdict (pages_of bays frame).facts at Load) (word_of (pages_of bays frame) at.index)
+table_load_there bays frame at bay there = ap (λ (p : Page). table_load (private_verdict p.facts at Load) (word_of p at.index)) (sym (page_there bays frame bay there))
 
 -- what the nested walker sees of a frame whose bay is there
 pub table_word_there : (bays : Bays) (frame index : ℕ) (bay : Bay) → bays (frame / 512) ≡ Some bay → table_word (page_in (Some bay) (frame % 512)) index ≡ table_word (pages_of bays frame) index

@@ -8,13 +8,14 @@ use Rattle.snp_model.specs.declared.event.Outcome.{Outcome}
 use Rattle.snp_model.specs.declared.item.Item.{Item}
 use Rattle.snp_model.specs.declared.item.Item.TheVariants.{Access, Skip}
 use Rattle.snp_model.specs.declared.scenario.GuestSpec.{GuestSpec}
-use Rattle.snp_model.specs.declared.scenario.Paging.TheVariants.{Flat}
 use Rattle.snp_model.specs.declared.scenario.Role.{Role}
 use Rattle.snp_model.specs.declared.scenario.Role.TheVariants.{Cpu, Host}
 use Rattle.snp_model.specs.Locks.{view_of}
+use Rattle.snp_model.specs.OpenAttempts.{AreWalking}
 use Rattle.snp_model.specs.Room.{AreBounded}
 use Rattle.snp_model.specs.State.{ActorPart, View, IsUnfinished, idle_part}
 use Rattle.snp_model.specs.Step.{Move, Stepped, event_of, after, item_move, line_at, part_after, step_of, stepped}
+use Rattle.snp_model.proofs.OpenAttemptsLaws.{after_walking}
 use Rattle.snp_model.proofs.RoomLaws.{step_lowers}
 use Rattle.snp_model.proofs.RunLaws.{unfinished_at}
 use Rattle.machine_core.specs.declared.bay.Bay.{Bay}
@@ -26,7 +27,7 @@ use Rattle.machine_core.proofs.TouchLaws.{own_has}
 -- no item looks at locks yet
 item_move_on : (frames : ℕ) (guests : List GuestSpec) (view : View) (part : ActorPart) (role : Role) (item : Item) → item_move frames guests view part role item ≡ item_move frames guests (view_on view.contents) part role item
 unfolding item_move
-item_move_on frames guests view part (Cpu guest vmpl npt Flat) (Access address op) = refl
+item_move_on frames guests view part (Cpu guest vmpl npt paging) (Access address op) = refl
 item_move_on frames guests view part Host (Access address op) = refl
 item_move_on frames guests view part role (Skip count test) = refl
 item_move_on frames guests view part role item = refl
@@ -96,6 +97,7 @@ machine_made bays new_bays guests actors actor part new_part event made unfinish
       few_guests = machine.few_guests;
       few = subst (λ (n : ℕ). n ≤ 32) (sym (length-set actors (actor - 1) new_part)) machine.few;
       bounded = subst AreBounded (sym (after_made bays new_bays guests actors actor part new_part event made)) (step_lowers (state_of (machine_with bays guests actors)) actor machine.bounded unfinished).bounded;
+      walking = subst AreWalking (sym (after_made bays new_bays guests actors actor part new_part event made)) (after_walking (state_of (machine_with bays guests actors)) actor machine.walking unfinished);
     }
 
 -- the actor that a read of the list gives

@@ -15,10 +15,12 @@ use Rattle.snp_model.specs.declared.scenario.Scenario.{Scenario}
 use Rattle.snp_model.specs.Attempts.{script_attempts, actors_attempts, attempts_of}
 use Rattle.snp_model.specs.Facts.{free_entry}
 use Rattle.snp_model.specs.Opening.{opening, opening_part, opening_contexts, facts_from, words_from}
+use Rattle.snp_model.specs.OpenAttempts.{AreWalking}
 use Rattle.snp_model.specs.Room.{AreBounded}
 use Rattle.snp_model.specs.Sound.{IsSound, IsActor, IsRole, IsItemOf, IsLineOf}
 use Rattle.snp_model.specs.State.{ActorPart, Page, zero_words}
 use Rattle.snp_model.specs.Step.{line_at}
+use Rattle.snp_model.proofs.OpenAttemptsLaws.{opening_walking}
 use Rattle.snp_model.proofs.RoomLaws.{opening_are}
 use Rattle.machine_core.specs.Machine.{IsMachine, state_of}
 use Rattle.machine_core.specs.declared.bay.Bay.{Bay}
@@ -52,7 +54,7 @@ sound_line frames role (line ∷ lines) all zero within = sound_item frames role
 sound_line frames role (line ∷ lines) all (suc k) within = sound_line frames role lines all.1 k (omega arith)
 
 sound_role : (frames guests : ℕ) (role : Role) → IsRole frames guests role → IsSoundRole frames guests role
-sound_role frames guests (Cpu guest vmpl npt paging) h = (h.guest_some, h.guest_most, h.vmpl_below, h.npt_below)
+sound_role frames guests (Cpu guest vmpl npt paging) h = (h.guest_some, h.guest_most, h.vmpl_below, h.npt_below, h.root_below)
 sound_role frames guests Host h = tt
 sound_role frames guests Firmware h = absurd h
 
@@ -121,4 +123,5 @@ built_machine c bays guests actors sound built =
       few_guests = subst (λ (n : ℕ). n ≤ 8) (sym (ap length built.guests_are)) sound.guests_most;
       few = subst (λ (n : ℕ). n ≤ 32) (sym (ap length built.actors_are ∙ length_parts c.actors)) sound.actors_most;
       bounded = subst AreBounded (sym (opened c bays guests actors built)) (opening_are c);
+      walking = subst AreWalking (sym (opened c bays guests actors built)) (opening_walking c);
     }

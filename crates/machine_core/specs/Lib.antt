@@ -1,3 +1,4 @@
+pub mod Actors
 pub mod Bays
 pub mod Machine
 pub mod Moves

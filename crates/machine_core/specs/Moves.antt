@@ -1,11 +1,18 @@
 -- What the machine's functions show of an event, against the moves of the model.
-use Rattle.std.specs.Prelude.{ℕ, ◌<◌, ◌≤◌, ◌/◌, length, None}
+use Rattle.std.specs.Prelude.{ℕ, ◌<◌, ◌≤◌, ◌/◌, length, Option, Some, None, Result, Ok, Err}
+use Rattle.snp_model.specs.declared.access.Verdict.{Verdict}
+use Rattle.snp_model.specs.declared.access.Verdict.TheVariants.{Pass, Hidden, Fault}
+use Rattle.snp_model.specs.declared.event.Deed.TheVariants.{Table}
+use Rattle.snp_model.specs.declared.event.Outcome.{Outcome}
+use Rattle.snp_model.specs.declared.event.Outcome.TheVariants.{Opaque}
 use Rattle.snp_model.specs.declared.item.Item.{Item}
 use Rattle.snp_model.specs.declared.item.Item.TheVariants.{Access}
 use Rattle.snp_model.specs.declared.scenario.Role.{Role}
 use Rattle.snp_model.specs.declared.scenario.Role.TheVariants.{Cpu, Host, Firmware}
 use Rattle.snp_model.specs.State.{Contents, ActorPart, View}
-use Rattle.snp_model.specs.Step.{Move, Processor, line_at}
+use Rattle.snp_model.specs.Step.{Move, line_at}
+use Rattle.snp_model.specs.Walking.{Processor}
+use Rattle.snp_model.specs.Sound.{IsPaging}
 use Rattle.machine_core.specs.declared.cpu.Processor as cpus
 use Rattle.machine_core.specs.declared.shown.Shown.{Shown}
 
@@ -25,7 +32,7 @@ IsSoundItem frames role item = Unit {0}
 
 -- a role's numbers are in range
 abbrev pub IsSoundRole : ℕ → ℕ → Role → Type 0
-IsSoundRole frames guests (Cpu guest vmpl npt paging) = (0 < guest) × (guest ≤ guests) × (vmpl < 4) × (npt < frames)
+IsSoundRole frames guests (Cpu guest vmpl npt paging) = (0 < guest) × (guest ≤ guests) × (vmpl < 4) × (npt < frames) × IsPaging paging
 IsSoundRole frames guests Host = Unit {0}
 IsSoundRole frames guests Firmware = Unit {0}
 
@@ -36,4 +43,15 @@ pub record IsSoundPart (frames guests : ℕ) (part : ActorPart) : Type 0 where
 
 -- a processor as the model sees it
 abbrev pub processor_of : cpus.Processor → Processor
-processor_of cpu = record { guest = cpu.guest; vmpl = cpu.vmpl; npt = cpu.npt }
+processor_of cpu = record { guest = cpu.guest; vmpl = cpu.vmpl; npt = cpu.npt; paging = cpu.paging }
+
+-- the word of a guest table, or how its read is refused
+abbrev pub table_load : Verdict → ℕ → Result ℕ Outcome
+table_load Pass word = Ok word
+table_load Hidden word = Err Opaque
+table_load (Fault outcome) word = Err outcome
+
+-- what the read of a guest table shows, by its word: the walk may then fault
+abbrev pub table_shown : Result ℕ Outcome → ℕ → ℕ → ℕ → (ℕ → Option Outcome) → Shown
+table_shown (Ok word) gpn index frame faults = record { deed = Table gpn index frame (Some word); outcome = faults word }
+table_shown (Err outcome) gpn index frame faults = record { deed = Table gpn index frame None; outcome = Some outcome }

@@ -1,11 +1,13 @@
-ghost use Rattle.std.specs.Prelude.{◌≡◌, ◌+◌, ◌<◌, ◌≤◌, ◌^◌, ◌==◌, nat_le, length, None, IfOk, IsNone};
+ghost use Rattle.std.specs.Prelude.{◌≡◌, ◌++◌, ◌∷◌, [], ◌+◌, ◌<◌, ◌≤◌, ◌^◌, ◌==◌, nat_le, length, None, IfOk, IsNone};
 ghost use Rattle.snp_model.specs.Opening.{opening_part};
 ghost use Rattle.snp_model.specs.Step.{line_at, passed_over, tries_again, last_after, part_after};
 ghost use Rattle.snp_model.specs.declared.event.Event.{Event};
 ghost use Rattle.snp_model.specs.State.{Contents};
+ghost use Rattle.snp_model.specs.Walking.{guest_words, nested_words};
 ghost use Rattle.machine_core.specs.Moves.{move_by};
 
 use crate::shown::Shown;
+use crate::words::Words;
 use arrayvec::ArrayVec;
 use snp_model::{Actor, Deed, Event, Line, Listed, Outcome, Role};
 use std::alloc::{AllocError, Global};
@@ -19,22 +21,25 @@ pub struct ActorState {
     item: usize,
     attempt: u32,
     deeds: ArrayVec<Deed, 32>,
+    words: Words,
     last: Option<Outcome>,
 }
 
 impl Model for ActorState {
     ghost use Rattle.std.specs.Prelude.{[], None, ◌<◌, ◌≤◌, ◌^◌, length};
     ghost use Rattle.snp_model.specs.State.{ActorPart};
+    ghost use Rattle.machine_core.specs.Actors.{IsActorState};
 
     ghost Value = { ActorPart };
 
     ghost view = { λ a. record { role = a.role; script = a.script; item = a.item; attempt = a.attempt; deeds = a.deeds.items; locks = []; context_lock = None; computed = None; last = a.last } };
 
-    ghost invariant = { λ a. length a.script < 2 ^ 32 };
+    ghost invariant = { λ a. IsActorState a.script a.deeds.items a.words.guest.items a.words.nested.items };
 }
 
 impl ActorState {
     /// An actor before its first item.
+    #[tactic(auto, using(crate::proofs::ActorLaws::actor_anew))]
     pub fn new(alloc: Global, actor: &Actor) -> Result<ActorState, AllocError>
         requires { length actor.now.script < 2 ^ 32 }
         ensures { IfOk result (λ part. part ≡ opening_part actor.now) }
@@ -45,6 +50,7 @@ impl ActorState {
             item: 0,
             attempt: 0,
             deeds: ArrayVec::new(),
+            words: Words::new(),
             last: None,
         })
     }
@@ -61,6 +67,20 @@ impl ActorState {
         ensures { result.now ≡ self.now.deeds }
     {
         self.deeds.as_slice()
+    }
+
+    /// The words of guest tables that the open attempt has read.
+    pub fn guest_words(&self) -> &[u64]
+        ensures { result.now ≡ guest_words self.now.deeds }
+    {
+        self.words.guest.as_slice()
+    }
+
+    /// The words that the nested walk under way has read.
+    pub fn nested_words(&self) -> &[u64]
+        ensures { result.now ≡ nested_words self.now.deeds }
+    {
+        self.words.nested.as_slice()
     }
 
     /// The last outcome that isn't of a skip.
@@ -86,8 +106,18 @@ impl ActorState {
         script[self.item]
     }
 
+    // One more deed of the open attempt.
+    #[tactic(auto, using(crate::proofs::ActorLaws::actor_keeps))]
+    fn keep(&mut self, deed: Deed)
+        requires { length self.old.deeds < 32 }
+        ensures { self.new ≡ record self.old { deeds = self.old.deeds ++ deed ∷ [] } }
+    {
+        self.words.read(&deed);
+        self.deeds.push(deed);
+    }
+
     /// Takes down what an event shows, and gives the event.
-    #[tactic(auto, unfolding(snp_model::specs::Step::part_after, snp_model::specs::Step::position_after))]
+    #[tactic(auto, using(crate::proofs::ActorLaws::actor_anew), unfolding(snp_model::specs::Step::part_after, snp_model::specs::Step::position_after))]
     pub fn take_down(&mut self, shown: Shown) -> Event
         requires unfinished { self.old.item < length self.old.script }
         requires room { IsNone shown.outcome → length self.old.deeds < 32 }
@@ -101,7 +131,7 @@ impl ActorState {
             outcome: shown.outcome,
         };
         match shown.outcome {
-            None => self.deeds.push(shown.deed),
+            None => self.keep(shown.deed),
             Some(outcome) => {
                 let line = self.line();
                 if tries_again(&line, self.attempt, &outcome) {
@@ -111,6 +141,7 @@ impl ActorState {
                     self.attempt = 0;
                 }
                 self.deeds.clear();
+                self.words.clear();
                 self.last = last_after(self.last, outcome);
             }
         }

@@ -1,17 +1,19 @@
 ghost use Rattle.std.specs.Prelude.{◌≡◌, ◌/◌, ◌%◌, ◌<◌, List, Some, IsSome};
 ghost use Rattle.snp_model.specs.declared.entry.PageSize.TheVariants.{Small};
 ghost use Rattle.snp_model.specs.declared.event.Deed.{Deed};
+ghost use Rattle.snp_model.specs.declared.item.Op.TheVariants.{Load};
 ghost use Rattle.snp_model.specs.declared.scenario.GuestSpec.{GuestSpec};
 ghost use Rattle.snp_model.specs.Accesses.{IsPlace, guest_verdict};
 ghost use Rattle.snp_model.specs.Opening.{with_word_spec};
-ghost use Rattle.snp_model.specs.State.{ActorPart};
+ghost use Rattle.snp_model.specs.State.{ActorPart, word_of};
 ghost use Rattle.snp_model.specs.Step.{access_move, table_word};
-ghost use Rattle.snp_model.specs.Verdicts.{host_verdict};
+ghost use Rattle.snp_model.specs.Verdicts.{host_verdict, private_verdict};
 ghost use Rattle.machine_core.specs.Bays.{contents_of, facts_of, pages_of, with_entry, words_of};
-ghost use Rattle.machine_core.specs.Moves.{move_by};
+ghost use Rattle.machine_core.specs.Moves.{move_by, table_load};
 
 use crate::parts::Parts;
-use snp_model::{Op, Outcome, Place, RmpEntry};
+use rmp_check::private_verdict;
+use snp_model::{Op, Outcome, Place, RmpEntry, Verdict};
 
 /// The word of a nested table that the walker sees: 0 where the frame is assigned.
 pub fn table_word<P: Parts>(parts: &P, frame: u32, index: u16) -> u64
@@ -26,6 +28,22 @@ pub fn table_word<P: Parts>(parts: &P, frame: u32, index: u16) -> u64
         0
     } else {
         bay.memory.load(slot, index as usize)
+    }
+}
+
+/// A word of a guest table, read with its RMP check, which is that of a private load.
+pub fn guest_table_word<P: Parts>(parts: &P, frame: u32, at: &Place) -> Result<u64, Outcome>
+    requires has { IsSome (P.bays parts.now (frame / 512)) }
+    requires place { IsPlace at.now }
+    requires slot { at.now.slot ≡ frame % 512 }
+    ensures { let page = pages_of (P.bays parts.now) frame in result ≡ table_load (private_verdict page.facts at.now Load) (word_of page at.now.index) }
+{
+    let bay = parts.bay(frame / 512);
+    let entry = bay.rmp.effective(at.slot);
+    match private_verdict(&entry, at, &Op::Load) {
+        Verdict::Pass => Ok(bay.memory.load(at.slot, at.index)),
+        Verdict::Hidden => Err(Outcome::Opaque),
+        Verdict::Fault(outcome) => Err(outcome),
     }
 }
 

@@ -1,49 +1,51 @@
-ghost use Rattle.std.specs.Prelude.{◌≡◌, ◌/◌, ◌%◌, ◌<◌, ◌≤◌, ◌^◌, true, List, Some, IsSome};
-ghost use Rattle.snp_model.specs.declared.event.Deed.TheVariants.{Access, Nested};
+ghost use Rattle.std.specs.Prelude.{◌≡◌, ℕ, ◌+◌, ◌/◌, ◌%◌, ◌<◌, ◌≤◌, ◌^◌, length, List, ◌++◌, ◌∷◌, [], Some, IsSome};
+ghost use Rattle.snp_model.specs.declared.event.Deed.TheVariants.{Access, Nested, Table};
+ghost use Rattle.snp_model.specs.declared.item.Op.TheVariants.{Load};
 ghost use Rattle.snp_model.specs.declared.scenario.GuestSpec.{GuestSpec};
 ghost use Rattle.snp_model.specs.Accesses.{IsPlace, guest_verdict};
-ghost use Rattle.snp_model.specs.NestedWalk.{after_word};
+ghost use Rattle.snp_model.specs.GuestWalk.{is_canonical};
+ghost use Rattle.snp_model.specs.OpenAttempts.{IsAccess};
 ghost use Rattle.snp_model.specs.Opening.{asid_of, opening_contexts};
-ghost use Rattle.snp_model.specs.Operations.{writes};
-ghost use Rattle.snp_model.specs.State.{ActorPart, Contents};
-ghost use Rattle.snp_model.specs.Step.{is_canonical, is_running, flat_gpn, flat_path, flat_place, index_of, table_word, walk_outcome, access_move, begin_move, flat_access};
-ghost use Rattle.snp_model.specs.Touches.{flat_touches};
+ghost use Rattle.snp_model.specs.Sound.{IsPaging};
+ghost use Rattle.snp_model.specs.State.{ActorPart, Contents, word_of};
+ghost use Rattle.snp_model.specs.Step.{is_running, data_place, table_place, table_word, access_move, begin_move, cpu_access};
+ghost use Rattle.snp_model.specs.Touches.{cpu_touches};
+ghost use Rattle.snp_model.specs.Verdicts.{private_verdict};
+ghost use Rattle.snp_model.specs.Walking.{index_of, guest_words, guest_stands, need_after, fault_of};
 ghost use Rattle.machine_core.specs.Bays.{HasTouched, contents_of, pages_of};
-ghost use Rattle.machine_core.specs.Moves.{move_by, processor_of};
+ghost use Rattle.machine_core.specs.Moves.{move_by, processor_of, table_load, table_shown};
+ghost use Rattle.machine_core.specs.Walks.{IsWalkable, IsGuestInside};
 
 use crate::actor::ActorState;
-use crate::changes::{guest_access, table_word};
+use crate::changes::{guest_access, guest_table_word, table_word};
 use crate::parts::Parts;
 use crate::shown::Shown;
-use crate::walk::{after_word, walk_of};
-use snp_model::{Deed, GuestSpec, NestedEnd, NestedPath, Op, Outcome, PageSize, Place};
+use crate::walking::{fault_by_nested, fault_by_table, guest_stands, walk_need};
+use snp_model::{Deed, GuestEnd, GuestSpec, Need, Op, Outcome, PageSize, Paging, Place};
 
-/// A guest's processor: its guest, from 1, its VMPL and the frame of its first nested table.
+/// A guest's processor: its guest, from 1, its VMPL, the frame of its first nested table, and its guest tables.
 #[derive(Clone, Copy)]
 pub struct Processor {
     pub guest: u8,
     pub vmpl: u8,
     pub npt: u32,
+    pub paging: Paging,
 }
 
-// Whether an operation writes. A compare does, whatever it finds.
-fn writes(op: &Op) -> bool
-    ensures { result ≡ writes op.now }
-{
-    match op {
-        Op::Load => false,
-        Op::Store(_) => true,
-        Op::Swap(_) => true,
-        Op::Compare { .. } => true,
-        Op::Xor(_) => true,
-    }
+/// An access of such a processor to a virtual address.
+#[derive(Clone, Copy)]
+pub struct GuestAccess {
+    pub cpu: Processor,
+    pub address: u64,
+    pub op: Op,
 }
 
 // Whether bits 63:47 of an address are all equal.
 fn is_canonical(address: u64) -> bool
     ensures { result ≡ is_canonical address }
 {
-    address < 0x8000_0000_0000 || address >= 0xffff_8000_0000_0000
+    let top = address / 0x8000_0000_0000;
+    top == 0 || top == 0x1_ffff
 }
 
 // Whether a guest runs.
@@ -67,13 +69,6 @@ pub fn asid_of(guests: &[GuestSpec], guest: u8) -> u16
         None => 0,
         Some(spec) => spec.asid,
     }
-}
-
-fn flat_gpn(address: u64) -> u64
-    ensures gpn { result ≡ flat_gpn address }
-    ensures below { result < 2 ^ 36 }
-{
-    address / 4096 % 0x10_0000_0000
 }
 
 /// The word of a page that an address names.
@@ -103,70 +98,141 @@ fn begin(guests: &[GuestSpec], guest: u8, address: u64) -> Shown
     }
 }
 
-// How an event of a walk ends, by where the walk then stands.
-fn walk_outcome(stands: NestedEnd) -> Option<Outcome>
-    ensures { result ≡ walk_outcome stands }
-{
-    match stands {
-        NestedEnd::Read { .. } => None,
-        NestedEnd::Leaf { .. } => None,
-        NestedEnd::Fault(code) => Some(Outcome::Npf(code)),
-    }
-}
-
-// What the nested walk of an access without guest tables begins from.
-fn flat_path(frames: u32, cpu: Processor, address: u64, op: &Op) -> NestedPath
-    ensures { result ≡ flat_path frames (processor_of cpu) address op.now }
-{
-    NestedPath {
-        root: cpu.npt,
-        frames,
-        gpn: flat_gpn(address),
-        write: writes(op),
-        private: true,
-        table: false,
-    }
-}
-
-// The event of reading a word of a nested table, at a level from 4 to 1.
-fn read_table<P: Parts>(parts: &P, path: &NestedPath, level: u8, frame: u32, index: u16) -> Shown
+// The event of reading a word of a nested table.
+#[tactic(auto, using(crate::proofs::CpuLaws::nested_read_more))]
+fn read_nested<P: Parts>(
+    parts: &P,
+    frames: u32,
+    part: &ActorState,
+    access: &GuestAccess,
+    stands: GuestEnd,
+    frame: u32,
+    index: u16,
+) -> Shown
+    requires npt { access.now.cpu.npt < frames }
+    requires inside { IsGuestInside stands }
+    requires stands { stands ≡ guest_stands access.now.cpu.paging access.now.address access.now.op (guest_words part.now.deeds) }
     requires has { IsSome (P.bays parts.now (frame / 512)) }
     requires index { index < 512 }
-    requires low { 1 ≤ level }
-    requires high { level ≤ 4 }
-    ensures { let value = table_word (pages_of (P.bays parts.now) frame) index in result ≡ record { deed = Nested frame index value; outcome = walk_outcome (after_word path.now level value) } }
+    ensures { let deed = Nested frame index (table_word (pages_of (P.bays parts.now) frame) index) in
+        result ≡ record { deed = deed; outcome = fault_of (need_after frames (processor_of access.now.cpu) access.now.address access.now.op (part.now.deeds ++ deed ∷ [])) } }
 {
     let value = table_word(parts, frame, index);
+    let npt = access.cpu.npt;
+    let words = part.nested_words();
     Shown {
         deed: Deed::Nested {
             frame,
             index,
             value,
         },
-        outcome: walk_outcome(after_word(path, level, value)),
+        outcome: fault_by_nested(frames, npt, &access.op, stands, words, value),
     }
 }
 
-// Where an access without guest tables goes, once its walk has come to a leaf.
-fn flat_place(asid: u16, cpu: Processor, address: u64, frame: u32, size: PageSize) -> Place
+// The event of reading a word of a guest table, with its check.
+#[tactic(auto, using(crate::proofs::CpuLaws::table_read_more))]
+fn read_table<P: Parts>(
+    parts: &P,
+    part: &ActorState,
+    access: &GuestAccess,
+    place: &Place,
+    frame: u32,
+) -> Shown
+    requires paging { IsWalkable access.now.cpu.paging access.now.address }
+    requires has { IsSome (P.bays parts.now (frame / 512)) }
+    requires place { IsPlace place.now }
+    requires slot { place.now.slot ≡ frame % 512 }
+    ensures { (frames : ℕ) → let page = pages_of (P.bays parts.now) frame in
+        result ≡ table_shown (table_load (private_verdict page.facts place.now Load) (word_of page place.now.index)) place.now.gpn place.now.index frame
+        (λ value. fault_of (need_after frames (processor_of access.now.cpu) access.now.address access.now.op (part.now.deeds ++ Table place.now.gpn place.now.index frame (Some value) ∷ []))) }
+{
+    let gpn = place.gpn;
+    let index = place.index as u16;
+    match guest_table_word(parts, frame, place) {
+        Ok(word) => Shown {
+            deed: Deed::Table {
+                gpn,
+                index,
+                frame,
+                value: Some(word),
+            },
+            outcome: fault_by_table(
+                access.cpu.paging,
+                access.address,
+                &access.op,
+                part.guest_words(),
+                word,
+            ),
+        },
+        Err(outcome) => {
+            let deed = Deed::Table {
+                gpn,
+                index,
+                frame,
+                value: None,
+            };
+            Shown::last(deed, outcome)
+        }
+    }
+}
+
+// Where a word of a guest table stands.
+fn table_place(
+    guests: &[GuestSpec],
+    cpu: Processor,
+    gpn: u64,
+    index: u16,
+    frame: u32,
+    size: PageSize,
+) -> Place
+    requires guest { 0 < cpu.guest }
     requires vmpl { cpu.vmpl < 4 }
-    ensures place { result ≡ flat_place asid (processor_of cpu) address frame size }
+    requires gpn { gpn < 2 ^ 36 }
+    requires index { index < 512 }
+    ensures place { result ≡ table_place (asid_of guests.now cpu.guest) cpu.vmpl gpn index frame size }
     ensures inside { IsPlace result }
 {
-    let gpn = flat_gpn(address);
     Place {
-        asid,
+        asid: asid_of(guests, cpu.guest),
         gpn,
         slot: frame as usize % 512,
-        index: index_of(address) as usize,
+        index: index as usize,
         leaf: size,
         vmpl: cpu.vmpl,
         private: true,
+        table: true,
+    }
+}
+
+// Where an access goes that has come to a frame.
+fn data_place(
+    guests: &[GuestSpec],
+    access: &GuestAccess,
+    gpn: u64,
+    private: bool,
+    frame: u32,
+    size: PageSize,
+) -> Place
+    requires guest { 0 < access.now.cpu.guest }
+    requires vmpl { access.now.cpu.vmpl < 4 }
+    requires gpn { gpn < 2 ^ 36 }
+    ensures place { result ≡ data_place (asid_of guests.now access.now.cpu.guest) access.now.cpu.vmpl access.now.address gpn private frame size }
+    ensures inside { IsPlace result }
+{
+    Place {
+        asid: asid_of(guests, access.cpu.guest),
+        gpn,
+        slot: frame as usize % 512,
+        index: index_of(access.address) as usize,
+        leaf: size,
+        vmpl: access.cpu.vmpl,
+        private,
         table: false,
     }
 }
 
-// The event of the access itself, at the frame that the walk has come to.
+// The event of the access itself, at the frame that its walks have come to.
 fn reach<P: Parts>(parts: &mut P, place: &Place, frame: u32, op: &Op) -> Shown
     requires has { IsSome (P.bays parts.old (frame / 512)) }
     requires place { IsPlace place.now }
@@ -184,37 +250,51 @@ fn reach<P: Parts>(parts: &mut P, place: &Place, frame: u32, op: &Op) -> Shown
     Shown::last(deed, outcome)
 }
 
-/// The next event of an access of a guest's processor without guest tables.
-#[tactic(auto, unfolding(snp_model::specs::Step::flat_access, snp_model::specs::Step::flat_move, snp_model::specs::Step::nested_move))]
-pub fn flat_access<P: Parts>(
+/// The next event of an access of a guest's processor, in memory of so many frames.
+#[tactic(auto, using(crate::proofs::CpuLaws::table_moves), unfolding(snp_model::specs::Step::cpu_access, snp_model::specs::Step::need_move))]
+pub fn cpu_access<P: Parts>(
     parts: &mut P,
     frames: u32,
     guests: &[GuestSpec],
     part: &ActorState,
-    cpu: Processor,
-    address: u64,
-    op: &Op,
+    access: &GuestAccess,
 ) -> Shown
-    requires guest { 0 < cpu.guest }
-    requires vmpl { cpu.vmpl < 4 }
-    requires npt { cpu.npt < frames }
-    requires has { HasTouched (flat_touches frames (processor_of cpu) address op.now part.now.deeds) (P.bays parts.old) }
-    ensures moves { flat_access frames guests.now (contents_of (P.bays parts.old) guests.now) part.now (processor_of cpu) address op.now part.now.deeds ≡ move_by result (contents_of (P.bays parts.new) guests.now) part.now }
+    requires guest { 0 < access.now.cpu.guest }
+    requires vmpl { access.now.cpu.vmpl < 4 }
+    requires npt { access.now.cpu.npt < frames }
+    requires paging { IsPaging access.now.cpu.paging }
+    requires walking { IsAccess frames (processor_of access.now.cpu) access.now.address access.now.op part.now.deeds }
+    requires has { HasTouched (cpu_touches frames (processor_of access.now.cpu) access.now.address access.now.op part.now.deeds) (P.bays parts.old) }
+    ensures moves { cpu_access frames guests.now (contents_of (P.bays parts.old) guests.now) part.now (processor_of access.now.cpu) access.now.address access.now.op part.now.deeds ≡ move_by result (contents_of (P.bays parts.new) guests.now) part.now }
     ensures kept { P.kept parts.old parts.new }
 {
-    let deeds = part.deeds();
-    if deeds.is_empty() {
-        return begin(guests, cpu.guest, address);
+    let cpu = access.cpu;
+    if part.deeds().is_empty() {
+        return begin(guests, cpu.guest, access.address);
     }
-    let path = flat_path(frames, cpu, address, op);
-    let walk = walk_of(&path, deeds);
-    match walk.stands {
-        NestedEnd::Read { frame, index } => read_table(parts, &path, walk.level, frame, index),
-        NestedEnd::Leaf { frame, size } => {
-            let asid = asid_of(guests, cpu.guest);
-            let place = flat_place(asid, cpu, address, frame, size);
-            reach(parts, &place, frame, op)
+    let stands = guest_stands(cpu.paging, access.address, &access.op, part.guest_words());
+    match walk_need(frames, cpu.npt, &access.op, stands, part.nested_words()) {
+        Need::Nested { frame, index } => {
+            read_nested(parts, frames, part, access, stands, frame, index)
         }
-        NestedEnd::Fault(_) => Shown::unbuilt(),
+        Need::Table {
+            gpn,
+            index,
+            frame,
+            size,
+        } => {
+            let place = table_place(guests, cpu, gpn, index, frame, size);
+            read_table(parts, part, access, &place, frame)
+        }
+        Need::Data {
+            gpn,
+            private,
+            frame,
+            size,
+        } => {
+            let place = data_place(guests, access, gpn, private, frame, size);
+            reach(parts, &place, frame, &access.op)
+        }
+        Need::Fault(_) => Shown::unbuilt(),
     }
 }

@@ -1,6 +1,7 @@
 ghost use Rattle.std.specs.Prelude.{◌≡◌, ◌<◌, List, length};
 ghost use Rattle.snp_model.specs.declared.scenario.GuestSpec.{GuestSpec};
 ghost use Rattle.snp_model.specs.declared.scenario.Role.TheVariants.{Cpu, Host, Firmware};
+ghost use Rattle.snp_model.specs.OpenAttempts.{IsAttempt, IsWalking};
 ghost use Rattle.snp_model.specs.Room.{IsBounded};
 ghost use Rattle.snp_model.specs.Step.{item_move, line_at, step_of};
 ghost use Rattle.snp_model.specs.Touches.{item_touches};
@@ -8,12 +9,12 @@ ghost use Rattle.machine_core.specs.Bays.{HasAll, HasTouched, contents_of};
 ghost use Rattle.machine_core.specs.Moves.{move_by, view_on, IsSoundPart, IsSoundRole, IsSoundItem};
 
 use crate::actor::ActorState;
-use crate::cpu::{Processor, flat_access};
+use crate::cpu::{GuestAccess, Processor, cpu_access};
 use crate::host::host_access;
 use crate::parts::Parts;
 use crate::shown::Shown;
 use crate::skip::skip;
-use snp_model::{Event, GuestSpec, Item, Paging, Role};
+use snp_model::{Event, GuestSpec, Item, Role};
 
 /// Makes the next event of an unfinished actor in memory of so many frames: the step of the tables, over
 /// parts that have the regions that it touches. Takes no memory.
@@ -26,6 +27,7 @@ pub(crate) fn advance<P: Parts>(
     requires sound { IsSoundPart frames (length guests.now) actor.old }
     requires unfinished { actor.old.item < length actor.old.script }
     requires short { IsBounded actor.old }
+    requires walking { IsWalking frames actor.old }
     requires has { HasAll frames actor.old (P.bays parts.old) }
     ensures event { result ≡ (step_of frames guests.now actor.old (view_on (contents_of (P.bays parts.old) guests.now))).event }
     ensures part { actor.new ≡ (step_of frames guests.now actor.old (view_on (contents_of (P.bays parts.old) guests.now))).part }
@@ -46,6 +48,7 @@ fn next_event<P: Parts>(
 ) -> Shown
     requires sound { IsSoundPart frames (length guests.now) part.now }
     requires unfinished { part.now.item < length part.now.script }
+    requires walking { IsWalking frames part.now }
     requires has { HasAll frames part.now (P.bays parts.old) }
     ensures moves { item_move frames guests.now (view_on (contents_of (P.bays parts.old) guests.now)) part.now part.now.role (line_at part.now.script part.now.item).item ≡ move_by result (contents_of (P.bays parts.new) guests.now) part.now }
     ensures kept { P.kept parts.old parts.new }
@@ -58,8 +61,13 @@ fn next_event<P: Parts>(
             npt,
             paging,
         } => {
-            let cpu = Processor { guest, vmpl, npt };
-            cpu_event(parts, frames, guests, part, cpu, paging, line.item)
+            let cpu = Processor {
+                guest,
+                vmpl,
+                npt,
+                paging,
+            };
+            cpu_event(parts, frames, guests, part, cpu, line.item)
         }
         Role::Host => host_event(parts, frames, part, line.item),
         Role::Firmware => firmware_event(parts, frames, part, line.item),
@@ -67,42 +75,32 @@ fn next_event<P: Parts>(
 }
 
 // The next event of a guest's processor.
-#[tactic(auto, unfolding(snp_model::specs::Step::item_move, snp_model::specs::Touches::item_touches))]
+#[tactic(auto, unfolding(snp_model::specs::Step::item_move, snp_model::specs::Touches::item_touches, snp_model::specs::OpenAttempts::IsAttempt))]
 fn cpu_event<P: Parts>(
     parts: &mut P,
     frames: u32,
     guests: &[GuestSpec],
     part: &ActorState,
     cpu: Processor,
-    paging: Paging,
     item: Item,
 ) -> Shown
-    requires sound { IsSoundRole frames (length guests.now) (Cpu cpu.guest cpu.vmpl cpu.npt paging) }
-    requires has { HasTouched (item_touches frames part.now.deeds (Cpu cpu.guest cpu.vmpl cpu.npt paging) item) (P.bays parts.old) }
-    ensures moves { item_move frames guests.now (view_on (contents_of (P.bays parts.old) guests.now)) part.now (Cpu cpu.guest cpu.vmpl cpu.npt paging) item ≡ move_by result (contents_of (P.bays parts.new) guests.now) part.now }
+    requires sound { IsSoundRole frames (length guests.now) (Cpu cpu.guest cpu.vmpl cpu.npt cpu.paging) }
+    requires walking { IsAttempt frames (Cpu cpu.guest cpu.vmpl cpu.npt cpu.paging) item part.now.deeds }
+    requires has { HasTouched (item_touches frames part.now.deeds (Cpu cpu.guest cpu.vmpl cpu.npt cpu.paging) item) (P.bays parts.old) }
+    ensures moves { item_move frames guests.now (view_on (contents_of (P.bays parts.old) guests.now)) part.now (Cpu cpu.guest cpu.vmpl cpu.npt cpu.paging) item ≡ move_by result (contents_of (P.bays parts.new) guests.now) part.now }
     ensures kept { P.kept parts.old parts.new }
 {
-    match paging {
-        Paging::Flat => match item {
-            Item::Access { address, op } => flat_access(
-                parts, frames, guests, part, cpu, address, &op,
-            ),
-            Item::Pvalidate { .. } => Shown::unbuilt(),
-            Item::Rmpadjust { .. } => Shown::unbuilt(),
-            Item::Rmpupdate(_) => Shown::unbuilt(),
-            Item::Psmash { .. } => Shown::unbuilt(),
-            Item::Firmware(_) => Shown::unbuilt(),
-            Item::Skip { count, test } => skip(part, count, &test),
-        },
-        Paging::Four(_) => match item {
-            Item::Access { .. } => Shown::unbuilt(),
-            Item::Pvalidate { .. } => Shown::unbuilt(),
-            Item::Rmpadjust { .. } => Shown::unbuilt(),
-            Item::Rmpupdate(_) => Shown::unbuilt(),
-            Item::Psmash { .. } => Shown::unbuilt(),
-            Item::Firmware(_) => Shown::unbuilt(),
-            Item::Skip { count, test } => skip(part, count, &test),
-        },
+    match item {
+        Item::Access { address, op } => {
+            let access = GuestAccess { cpu, address, op };
+            cpu_access(parts, frames, guests, part, &access)
+        }
+        Item::Pvalidate { .. } => Shown::unbuilt(),
+        Item::Rmpadjust { .. } => Shown::unbuilt(),
+        Item::Rmpupdate(_) => Shown::unbuilt(),
+        Item::Psmash { .. } => Shown::unbuilt(),
+        Item::Firmware(_) => Shown::unbuilt(),
+        Item::Skip { count, test } => skip(part, count, &test),
     }
 }
 

@@ -8,12 +8,15 @@ mod changes;
 mod cpu;
 mod event;
 mod host;
+mod law;
 mod machine;
 mod parts;
 mod shown;
 mod skip;
-mod walk;
+mod walking;
+mod words;
 
 pub use bay::Bay;
+pub use law::step_laws;
 pub use machine::Machine;
 pub use parts::{OwnParts, Parts};

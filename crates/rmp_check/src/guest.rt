@@ -4,7 +4,7 @@ ghost use Rattle.snp_model.specs.Accesses.{IsPlace};
 ghost use Rattle.snp_model.specs.Allowed.{IsAllowed};
 ghost use Rattle.snp_model.specs.Verdicts.{is_large, private_verdict, private_refusal, shared_verdict};
 
-use crate::operation::{lacks, writes};
+use crate::operation::lacks;
 use snp_model::{NestedFault, Op, Outcome, PageSize, Place, RmpEntry, Verdict};
 
 /// The verdict on a guest's private access to a frame with this entry: the first row of the table that
@@ -41,7 +41,7 @@ pub fn shared_verdict(entry: &RmpEntry, at: &Place, op: &Op) -> Verdict
     ensures unassigned { entry.now.assigned ≡ false → result ≡ Pass }
     ensures assigned { entry.now.assigned ≡ true → result ≢ Pass }
 {
-    if entry.assigned && writes(op) {
+    if entry.assigned && op.writes() {
         let fault = NestedFault {
             present: true,
             write: true,
@@ -66,7 +66,7 @@ fn private_refusal(at: &Place, op: &Op, by_permissions: bool) -> Verdict
 {
     let fault = NestedFault {
         present: true,
-        write: writes(op),
+        write: op.writes(),
         rmp: true,
         table: at.table,
         private: true,

@@ -2,7 +2,6 @@ ghost use Rattle.std.specs.Prelude.{◌≡◌, ◌≢◌, true, false};
 ghost use Rattle.snp_model.specs.declared.access.Verdict.TheVariants.{Pass};
 ghost use Rattle.snp_model.specs.Verdicts.{host_verdict};
 
-use crate::operation::writes;
 use snp_model::{Op, Outcome, RmpEntry, Verdict};
 
 /// The verdict on the hypervisor's access to a frame with this entry.
@@ -12,7 +11,7 @@ pub fn host_verdict(entry: &RmpEntry, op: &Op) -> Verdict
     ensures unassigned { entry.now.assigned ≡ false → result ≡ Pass }
     ensures assigned { entry.now.assigned ≡ true → result ≢ Pass }
 {
-    if entry.assigned && writes(op) {
+    if entry.assigned && op.writes() {
         Verdict::Fault(Outcome::Pf(0x8000_0003))
     } else if entry.assigned {
         Verdict::Hidden

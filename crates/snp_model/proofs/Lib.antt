@@ -6,6 +6,7 @@ pub mod GuestReadsLaws
 pub mod LocalityLaws
 pub mod MemoryLaws
 pub mod NestedReadsLaws
+pub mod OpenAttemptsLaws
 pub mod OpeningLaws
 pub mod OrderedLaws
 pub mod RegionLaws

@@ -2,7 +2,6 @@
 use Rattle.std.proofs.Common.{◌≡◌, ◌≢◌, ℕ, ◌/◌, Bool, true, false, not, cond, eqb, List, [], ◌∷◌, ◌++◌, Option, Some, None, refl, sym, ap, ◌∙◌, subst, arith}
 use Rattle.std.proofs.lemmas.Bool.{cond_both, eqb-true, true≢false}
 use Rattle.std.proofs.lemmas.Bool.Decides.{nat_tests}
-use Rattle.snp_model.specs.declared.access.Place.{Place}
 use Rattle.snp_model.specs.declared.access.Verdict.{Verdict}
 use Rattle.snp_model.specs.declared.access.Verdict.TheVariants.{Pass, Hidden, Fault}
 use Rattle.snp_model.specs.declared.event.Deed.{Deed}
@@ -15,19 +14,20 @@ use Rattle.snp_model.specs.declared.item.Op.{Op}
 use Rattle.snp_model.specs.declared.item.Op.TheVariants.{Load, Store, Swap, Compare, Xor}
 use Rattle.snp_model.specs.declared.item.SkipTest.{SkipTest}
 use Rattle.snp_model.specs.declared.scenario.GuestSpec.{GuestSpec}
-use Rattle.snp_model.specs.declared.scenario.Paging.TheVariants.{Flat}
 use Rattle.snp_model.specs.declared.scenario.Role.{Role}
 use Rattle.snp_model.specs.declared.scenario.Role.TheVariants.{Cpu, Host}
-use Rattle.snp_model.specs.declared.walk.NestedPath.{NestedPath}
-use Rattle.snp_model.specs.declared.walk.NestedEnd.{NestedEnd}
-use Rattle.snp_model.specs.declared.walk.NestedEnd.TheVariants as ends
-use Rattle.snp_model.specs.NestedWalk.{nested_end}
+use Rattle.snp_model.specs.declared.entry.RmpEntry.{RmpEntry}
+use Rattle.snp_model.specs.declared.walk.Need.{Need}
+use Rattle.snp_model.specs.declared.walk.Need.TheVariants as needs
+use Rattle.snp_model.specs.Accesses.{guest_verdict}
+use Rattle.snp_model.specs.GuestWalk.{is_canonical}
+use Rattle.snp_model.specs.Walking.{Processor, index_of, need_after, fault_of}
 use Rattle.snp_model.specs.Opening.{asid_of}
 use Rattle.snp_model.specs.Operations.{outcome_of, word_after}
 use Rattle.snp_model.specs.Verdicts.{private_verdict, host_verdict}
 use Rattle.snp_model.specs.State.{Page, Pages, Context, Contents, ActorPart, View, with_word, word_of}
-use Rattle.snp_model.specs.Step.{Move, Stepped, Processor, quiet_move, unbuilt_move, pages_after, access_move, table_word, nested_words, walk_outcome, is_running, is_canonical, begin_move, flat_gpn, index_of, flat_path, flat_place, nested_move, flat_move, flat_access, host_access, skip_move, item_move, line_at, part_after, step_of}
-use Rattle.snp_model.specs.Touches.{Touched, no_part, frame_part, context_part, walk_touches, flat_touches, item_touches, touches, touches_frame, AgreeOn, AgreeBeside, SeeAlike}
+use Rattle.snp_model.specs.Step.{Move, quiet_move, unbuilt_move, pages_after, access_move, table_word, is_running, begin_move, walk_move, table_move, need_move, cpu_access, data_place, table_place, host_access, skip_move, item_move, line_at, part_after, step_of}
+use Rattle.snp_model.specs.Touches.{Touched, no_part, frame_part, context_part, need_touches, cpu_touches, item_touches, touches, touches_frame, AgreeOn, AgreeBeside, SeeAlike, StepsAlike}
 
 -- two moves are the same, and leave what is touched the same
 record MovesAlike (touched : Touched) (one other : Move) : Type 0 where
@@ -37,12 +37,6 @@ record MovesAlike (touched : Touched) (one other : Move) : Type 0 where
   locks : one.locks ≡ other.locks
   context_lock : one.context_lock ≡ other.context_lock
   computed : one.computed ≡ other.computed
-
--- two steps are the same, and leave what is touched the same
-pub record StepsAlike (touched : Touched) (one other : Stepped) : Type 0 where
-  pub event : one.event ≡ other.event
-  pub part : one.part ≡ other.part
-  pub contents : AgreeOn touched one.contents other.contents
 
 -- a frame is in its own region
 own_frame : (frame : ℕ) → touches_frame (frame_part frame) frame ≡ true
@@ -109,20 +103,17 @@ begins_alike one other part guest address same =
     subst (λ (context : Context). MovesAlike (context_part guest) (begin_move one part (one.contexts guest) address) (begin_move other part context address))
     (same.contexts guest refl) (begin_alike (context_part guest) one other part (one.contexts guest) address same)
 
--- a word of a nested table
-nested_alike : (touched : Touched) (one other : Contents) (part : ActorPart) (path : NestedPath) (frame index : ℕ) → touches_frame touched frame ≡ true
-    → AgreeOn touched one other → MovesAlike touched (nested_move one part path frame index) (nested_move other part path frame index)
-unfolding nested_move
-nested_alike touched one other part path frame index is_touched same =
-    let page = same.pages frame is_touched in
-    record {
-      deed = ap (λ (p : Page). deeds.Nested frame index (table_word p index)) page;
-      outcome = ap (λ (p : Page). walk_outcome (nested_end path (nested_words part.deeds ++ table_word p index ∷ []))) page;
-      contents = same;
-      locks = refl;
-      context_lock = refl;
-      computed = refl;
-    }
+-- a word of a walk
+walk_alike : (touched : Touched) (frames : ℕ) (one other : Contents) (part : ActorPart) (cpu : Processor) (address : ℕ) (op : Op) (deed deed' : Deed) → deed ≡ deed'
+    → AgreeOn touched one other → MovesAlike touched (walk_move frames one part cpu address op deed) (walk_move frames other part cpu address op deed')
+walk_alike touched frames one other part cpu address op deed deed' is same = record {
+  deed = is;
+  outcome = ap (λ (d : Deed). fault_of (need_after frames cpu address op (part.deeds ++ d ∷ []))) is;
+  contents = same;
+  locks = refl;
+  context_lock = refl;
+  computed = refl;
+}
 
 -- an access, whatever its verdict
 access_alike : (touched : Touched) (one other : Contents) (part : ActorPart) (deed : Deed) (verdict : Verdict) (op : Op) (frame index : ℕ) → touches_frame touched frame ≡ true
@@ -146,13 +137,29 @@ access_alike touched one other part deed Pass op frame index is_touched same =
 access_alike touched one other part deed Hidden op frame index is_touched same = quiet_alike touched one other part deed _ same
 access_alike touched one other part deed (Fault outcome) op frame index is_touched same = quiet_alike touched one other part deed _ same
 
--- a guest's data access, after its nested walk
-private_alike : (touched : Touched) (one other : Contents) (part : ActorPart) (deed : Deed) (place : Place) (op : Op) (frame index : ℕ) → touches_frame touched frame ≡ true
+-- an access with its check, which looks at the frame's facts
+checked_alike : (touched : Touched) (one other : Contents) (part : ActorPart) (deed : Deed) (check : RmpEntry → Verdict) (op : Op) (frame index : ℕ) → touches_frame touched frame ≡ true
     → AgreeOn touched one other
-    → MovesAlike touched (access_move one part deed (private_verdict (one.pages frame).facts place op) op frame index) (access_move other part deed (private_verdict (other.pages frame).facts place op) op frame index)
-private_alike touched one other part deed place op frame index is_touched same =
-    subst (λ (page : Page). MovesAlike touched (access_move one part deed (private_verdict (one.pages frame).facts place op) op frame index) (access_move other part deed (private_verdict page.facts place op) op frame index))
+    → MovesAlike touched (access_move one part deed (check (one.pages frame).facts) op frame index) (access_move other part deed (check (other.pages frame).facts) op frame index)
+checked_alike touched one other part deed check op frame index is_touched same =
+    subst (λ (page : Page). MovesAlike touched (access_move one part deed (check (one.pages frame).facts) op frame index) (access_move other part deed (check page.facts) op frame index))
     (same.pages frame is_touched) (access_alike touched one other part deed _ op frame index is_touched same)
+
+-- a word of a guest table, whatever the verdict
+table_alike : (touched : Touched) (frames : ℕ) (one other : Contents) (part : ActorPart) (cpu : Processor) (address : ℕ) (op : Op) (verdict : Verdict) (gpn index frame : ℕ) → touches_frame touched frame ≡ true
+    → AgreeOn touched one other → MovesAlike touched (table_move frames one part cpu address op verdict gpn index frame) (table_move frames other part cpu address op verdict gpn index frame)
+unfolding table_move
+table_alike touched frames one other part cpu address op Pass gpn index frame is_touched same =
+    walk_alike touched frames one other part cpu address op _ _ (ap (λ (page : Page). deeds.Table gpn index frame (Some (word_of page index))) (same.pages frame is_touched)) same
+table_alike touched frames one other part cpu address op Hidden gpn index frame is_touched same = quiet_alike touched one other part _ _ same
+table_alike touched frames one other part cpu address op (Fault outcome) gpn index frame is_touched same = quiet_alike touched one other part _ _ same
+
+table_checked_alike : (touched : Touched) (frames : ℕ) (one other : Contents) (part : ActorPart) (cpu : Processor) (address : ℕ) (op : Op) (check : RmpEntry → Verdict) (gpn index frame : ℕ) → touches_frame touched frame ≡ true
+    → AgreeOn touched one other
+    → MovesAlike touched (table_move frames one part cpu address op (check (one.pages frame).facts) gpn index frame) (table_move frames other part cpu address op (check (other.pages frame).facts) gpn index frame)
+table_checked_alike touched frames one other part cpu address op check gpn index frame is_touched same =
+    subst (λ (page : Page). MovesAlike touched (table_move frames one part cpu address op (check (one.pages frame).facts) gpn index frame) (table_move frames other part cpu address op (check page.facts) gpn index frame))
+    (same.pages frame is_touched) (table_alike touched frames one other part cpu address op _ gpn index frame is_touched same)
 
 -- a hypervisor's access
 host_alike : (one other : Contents) (part : ActorPart) (address : ℕ) (op : Op)
@@ -160,35 +167,36 @@ host_alike : (one other : Contents) (part : ActorPart) (address : ℕ) (op : Op)
 unfolding host_access
 host_alike one other part address op same =
     let frame = address / 4096 in
-    let touched = frame_part frame in
-    let deed = deeds.Host frame (index_of address) in
-    subst (λ (page : Page). MovesAlike touched (access_move one part deed (host_verdict (one.pages frame).facts op) op frame (index_of address)) (access_move other part deed (host_verdict page.facts op) op frame (index_of address)))
-    (same.pages frame (own_frame frame)) (access_alike touched one other part deed _ op frame (index_of address) (own_frame frame) same)
+    checked_alike (frame_part frame) one other part (deeds.Host frame (index_of address)) (λ (facts : RmpEntry). host_verdict facts op) op frame (index_of address) (own_frame frame) same
 
--- an access of a guest processor without guest tables
-flat_alike : (frames : ℕ) (guests : List GuestSpec) (one other : Contents) (part : ActorPart) (cpu : Processor) (address : ℕ) (op : Op) (stands : NestedEnd)
-    → AgreeOn (walk_touches stands) one other → MovesAlike (walk_touches stands) (flat_move frames guests one part cpu address op stands) (flat_move frames guests other part cpu address op stands)
-unfolding walk_touches flat_move
-flat_alike frames guests one other part cpu address op (ends.Read frame index) same =
-    nested_alike (frame_part frame) one other part (flat_path frames cpu address op) frame index (own_frame frame) same
-flat_alike frames guests one other part cpu address op (ends.Leaf frame size) same =
-    private_alike (frame_part frame) one other part (deeds.Access (flat_gpn address) (index_of address) frame true) (flat_place (asid_of guests cpu.guest) cpu address frame size) op frame (index_of address) (own_frame frame) same
-flat_alike frames guests one other part cpu address op (ends.Fault code) same = unbuilt_alike no_part one other part same
+-- an access of a guest processor, by what it needs
+need_alike : (frames : ℕ) (guests : List GuestSpec) (one other : Contents) (part : ActorPart) (cpu : Processor) (address : ℕ) (op : Op) (need : Need)
+    → AgreeOn (need_touches need) one other → MovesAlike (need_touches need) (need_move frames guests one part cpu address op need) (need_move frames guests other part cpu address op need)
+unfolding need_touches need_move
+need_alike frames guests one other part cpu address op (needs.Nested frame index) same =
+    walk_alike (frame_part frame) frames one other part cpu address op _ _ (ap (λ (page : Page). deeds.Nested frame index (table_word page index)) (same.pages frame (own_frame frame))) same
+need_alike frames guests one other part cpu address op (needs.Table gpn index frame size) same =
+    let place = table_place (asid_of guests cpu.guest) cpu.vmpl gpn index frame size in
+    table_checked_alike (frame_part frame) frames one other part cpu address op (λ (facts : RmpEntry). private_verdict facts place Load) gpn index frame (own_frame frame) same
+need_alike frames guests one other part cpu address op (needs.Data gpn private frame size) same =
+    let place = data_place (asid_of guests cpu.guest) cpu.vmpl address gpn private frame size in
+    checked_alike (frame_part frame) one other part (deeds.Access gpn (index_of address) frame private) (λ (facts : RmpEntry). guest_verdict facts place op) op frame (index_of address) (own_frame frame) same
+need_alike frames guests one other part cpu address op (needs.Fault outcome) same = unbuilt_alike no_part one other part same
 
-flat_access_alike : (frames : ℕ) (guests : List GuestSpec) (one other : Contents) (part : ActorPart) (cpu : Processor) (address : ℕ) (op : Op) (made : List Deed)
-    → AgreeOn (flat_touches frames cpu address op made) one other
-    → MovesAlike (flat_touches frames cpu address op made) (flat_access frames guests one part cpu address op made) (flat_access frames guests other part cpu address op made)
-unfolding flat_touches flat_access
-flat_access_alike frames guests one other part cpu address op [] same = begins_alike one other part cpu.guest address same
-flat_access_alike frames guests one other part cpu address op (deed ∷ others) same =
-    flat_alike frames guests one other part cpu address op (nested_end (flat_path frames cpu address op) (nested_words (deed ∷ others))) same
+cpu_access_alike : (frames : ℕ) (guests : List GuestSpec) (one other : Contents) (part : ActorPart) (cpu : Processor) (address : ℕ) (op : Op) (made : List Deed)
+    → AgreeOn (cpu_touches frames cpu address op made) one other
+    → MovesAlike (cpu_touches frames cpu address op made) (cpu_access frames guests one part cpu address op made) (cpu_access frames guests other part cpu address op made)
+unfolding cpu_touches cpu_access
+cpu_access_alike frames guests one other part cpu address op [] same = begins_alike one other part cpu.guest address same
+cpu_access_alike frames guests one other part cpu address op (deed ∷ others) same =
+    need_alike frames guests one other part cpu address op (need_after frames cpu address op (deed ∷ others)) same
 
 -- so each item's move
 item_alike : (frames : ℕ) (guests : List GuestSpec) (part : ActorPart) (role : Role) (item : Item) (one other : View) → SeeAlike (item_touches frames part.deeds role item) one other
     → MovesAlike (item_touches frames part.deeds role item) (item_move frames guests one part role item) (item_move frames guests other part role item)
 unfolding item_touches item_move
-item_alike frames guests part (Cpu guest vmpl npt Flat) (Access address op) one other same =
-    flat_access_alike frames guests one.contents other.contents part (record { guest = guest; vmpl = vmpl; npt = npt }) address op part.deeds same.contents
+item_alike frames guests part (Cpu guest vmpl npt paging) (Access address op) one other same =
+    cpu_access_alike frames guests one.contents other.contents part (record { guest = guest; vmpl = vmpl; npt = npt; paging = paging }) address op part.deeds same.contents
 item_alike frames guests part Host (Access address op) one other same = host_alike one.contents other.contents part address op same.contents
 item_alike frames guests part role (Skip count test) one other same = skip_alike no_part one.contents other.contents part count test same.contents
 item_alike frames guests part role item one other same = unbuilt_alike no_part one.contents other.contents part same.contents
@@ -230,10 +238,13 @@ begin_alone touched old part context address =
     cond_both (not (is_running context.state)) _ _ (MovesAlone touched old) (λ _. quiet (Some outcomes.Offline))
     (λ _. cond_both (not (is_canonical address)) _ _ (MovesAlone touched old) (λ _. quiet (Some outcomes.Gp)) (λ _. quiet None))
 
--- a word of a nested table
-nested_alone : (touched : Touched) (old : Contents) (part : ActorPart) (path : NestedPath) (frame index : ℕ) → MovesAlone touched old (nested_move old part path frame index)
-unfolding nested_move
-nested_alone touched old part path frame index = quiet_alone touched old part _ _
+-- a word of a guest table, whatever the verdict
+table_alone : (touched : Touched) (frames : ℕ) (old : Contents) (part : ActorPart) (cpu : Processor) (address : ℕ) (op : Op) (verdict : Verdict) (gpn index frame : ℕ)
+    → MovesAlone touched old (table_move frames old part cpu address op verdict gpn index frame)
+unfolding table_move
+table_alone touched frames old part cpu address op Pass gpn index frame = quiet_alone touched old part _ _
+table_alone touched frames old part cpu address op Hidden gpn index frame = quiet_alone touched old part _ _
+table_alone touched frames old part cpu address op (Fault outcome) gpn index frame = quiet_alone touched old part _ _
 
 -- an access, whatever its verdict
 access_alone : (touched : Touched) (old : Contents) (part : ActorPart) (deed : Deed) (verdict : Verdict) (op : Op) (frame index : ℕ) → touches_frame touched frame ≡ true
@@ -255,29 +266,30 @@ host_alone old part address op =
     let frame = address / 4096 in
     access_alone (frame_part frame) old part (deeds.Host frame (index_of address)) (host_verdict (old.pages frame).facts op) op frame (index_of address) (own_frame frame)
 
--- an access of a guest processor without guest tables
-flat_alone : (frames : ℕ) (guests : List GuestSpec) (old : Contents) (part : ActorPart) (cpu : Processor) (address : ℕ) (op : Op) (stands : NestedEnd)
-    → MovesAlone (walk_touches stands) old (flat_move frames guests old part cpu address op stands)
-unfolding walk_touches flat_move
-flat_alone frames guests old part cpu address op (ends.Read frame index) = nested_alone (frame_part frame) old part (flat_path frames cpu address op) frame index
-flat_alone frames guests old part cpu address op (ends.Leaf frame size) =
-    let place = flat_place (asid_of guests cpu.guest) cpu address frame size in
-    access_alone (frame_part frame) old part (deeds.Access (flat_gpn address) (index_of address) frame true) (private_verdict (old.pages frame).facts place op) op frame (index_of address) (own_frame frame)
-flat_alone frames guests old part cpu address op (ends.Fault code) = quiet_alone no_part old part _ _
+-- an access of a guest processor, by what it needs
+need_alone : (frames : ℕ) (guests : List GuestSpec) (old : Contents) (part : ActorPart) (cpu : Processor) (address : ℕ) (op : Op) (need : Need)
+    → MovesAlone (need_touches need) old (need_move frames guests old part cpu address op need)
+unfolding need_touches need_move
+need_alone frames guests old part cpu address op (needs.Nested frame index) = quiet_alone (frame_part frame) old part _ _
+need_alone frames guests old part cpu address op (needs.Table gpn index frame size) = table_alone (frame_part frame) frames old part cpu address op _ gpn index frame
+need_alone frames guests old part cpu address op (needs.Data gpn private frame size) =
+    let place = data_place (asid_of guests cpu.guest) cpu.vmpl address gpn private frame size in
+    access_alone (frame_part frame) old part (deeds.Access gpn (index_of address) frame private) (guest_verdict (old.pages frame).facts place op) op frame (index_of address) (own_frame frame)
+need_alone frames guests old part cpu address op (needs.Fault outcome) = quiet_alone no_part old part _ _
 
-flat_access_alone : (frames : ℕ) (guests : List GuestSpec) (old : Contents) (part : ActorPart) (cpu : Processor) (address : ℕ) (op : Op) (made : List Deed)
-    → MovesAlone (flat_touches frames cpu address op made) old (flat_access frames guests old part cpu address op made)
-unfolding flat_touches flat_access
-flat_access_alone frames guests old part cpu address op [] = begin_alone (context_part cpu.guest) old part (old.contexts cpu.guest) address
-flat_access_alone frames guests old part cpu address op (deed ∷ others) =
-    flat_alone frames guests old part cpu address op (nested_end (flat_path frames cpu address op) (nested_words (deed ∷ others)))
+cpu_access_alone : (frames : ℕ) (guests : List GuestSpec) (old : Contents) (part : ActorPart) (cpu : Processor) (address : ℕ) (op : Op) (made : List Deed)
+    → MovesAlone (cpu_touches frames cpu address op made) old (cpu_access frames guests old part cpu address op made)
+unfolding cpu_touches cpu_access
+cpu_access_alone frames guests old part cpu address op [] = begin_alone (context_part cpu.guest) old part (old.contexts cpu.guest) address
+cpu_access_alone frames guests old part cpu address op (deed ∷ others) =
+    need_alone frames guests old part cpu address op (need_after frames cpu address op (deed ∷ others))
 
 -- so each item's move
 item_alone : (frames : ℕ) (guests : List GuestSpec) (part : ActorPart) (role : Role) (item : Item) (view : View)
     → MovesAlone (item_touches frames part.deeds role item) view.contents (item_move frames guests view part role item)
 unfolding item_touches item_move
-item_alone frames guests part (Cpu guest vmpl npt Flat) (Access address op) view =
-    flat_access_alone frames guests view.contents part (record { guest = guest; vmpl = vmpl; npt = npt }) address op part.deeds
+item_alone frames guests part (Cpu guest vmpl npt paging) (Access address op) view =
+    cpu_access_alone frames guests view.contents part (record { guest = guest; vmpl = vmpl; npt = npt; paging = paging }) address op part.deeds
 item_alone frames guests part Host (Access address op) view = host_alone view.contents part address op
 item_alone frames guests part role (Skip count test) view = quiet_alone no_part view.contents part _ _
 item_alone frames guests part role item view = quiet_alone no_part view.contents part _ _

@@ -1,7 +1,7 @@
 -- A run has at most 32 events for each attempt: each event leaves less room.
 use Rattle.std.proofs.Common.{◌≡◌, ℕ, zero, suc, ◌+◌, ◌-◌, ◌*◌, ◌/◌, ◌<◌, ◌≤◌, Bool, true, false, not, ◌&&◌, ◌||◌, nat_lt, List, [], ◌∷◌, ◌++◌, length, map, get_or, set, drop, Option, Some, None, refl, sym, ap, ◌∙◌, subst, ⊎_elim, arith}
 use Rattle.std.proofs.lemmas.Bool.{cond_both, ltb-true, true≢false, cases_eq}
-use Rattle.std.proofs.lemmas.List.{length_push, drop-drop}
+use Rattle.std.proofs.lemmas.List.{append-nil, length_push, drop-drop}
 use Rattle.std.proofs.lemmas.List.Elements.{All-set, All-map}
 use Rattle.snp_model.specs.declared.entry.PageSize.{PageSize}
 use Rattle.snp_model.specs.declared.entry.PageSize.TheVariants.{Small}
@@ -10,6 +10,11 @@ use Rattle.snp_model.specs.declared.event.Deed.TheVariants as deeds
 use Rattle.snp_model.specs.declared.event.Outcome.{Outcome}
 use Rattle.snp_model.specs.declared.event.Outcome.TheVariants as outcomes
 use Rattle.snp_model.specs.declared.item.Line.{Line}
+use Rattle.snp_model.specs.declared.walk.GuestPath.{GuestPath}
+use Rattle.snp_model.specs.declared.walk.GuestEnd.{GuestEnd}
+use Rattle.snp_model.specs.declared.walk.GuestEnd.TheVariants as guest_ends
+use Rattle.snp_model.specs.declared.walk.Need.{Need}
+use Rattle.snp_model.specs.declared.walk.Need.TheVariants as needs
 use Rattle.snp_model.specs.declared.walk.NestedPath.{NestedPath}
 use Rattle.snp_model.specs.declared.walk.NestedEnd.{NestedEnd}
 use Rattle.snp_model.specs.declared.walk.NestedEnd.TheVariants as ends
@@ -18,18 +23,21 @@ use Rattle.snp_model.specs.declared.scenario.Actor.{Actor}
 use Rattle.snp_model.specs.declared.scenario.Scenario.{Scenario}
 use Rattle.snp_model.specs.State.{ActorPart, Context, Contents, State, View, part_of, idle_part, IsUnfinished}
 use Rattle.snp_model.specs.Locks.{view_of}
-use Rattle.snp_model.specs.Verdicts.{private_verdict, host_verdict}
+use Rattle.snp_model.specs.Verdicts.{host_verdict}
 use Rattle.snp_model.specs.declared.access.Verdict.{Verdict}
 use Rattle.snp_model.specs.declared.access.Verdict.TheVariants.{Pass, Hidden, Fault}
 use Rattle.snp_model.specs.declared.item.Item.{Item}
 use Rattle.snp_model.specs.declared.item.Item.TheVariants.{Access, Skip}
 use Rattle.snp_model.specs.declared.item.Op.{Op}
 use Rattle.snp_model.specs.declared.scenario.GuestSpec.{GuestSpec}
-use Rattle.snp_model.specs.declared.scenario.Paging.TheVariants.{Flat}
+use Rattle.snp_model.specs.declared.scenario.Paging.{Paging}
+use Rattle.snp_model.specs.declared.scenario.Paging.TheVariants.{Flat, Four}
 use Rattle.snp_model.specs.declared.scenario.Role.{Role}
 use Rattle.snp_model.specs.declared.scenario.Role.TheVariants.{Cpu, Host}
-use Rattle.snp_model.specs.Step.{Position, Move, step_of, after, part_after, position_after, tries_again, passed_over, item_move, line_at, nested_words, is_running, is_canonical, quiet_move, unbuilt_move, access_move, begin_move, nested_move, flat_move, flat_access, host_access, flat_path, flat_place, flat_gpn, index_of, table_word, Processor}
-use Rattle.snp_model.specs.Opening.{asid_of, opening, opening_part}
+use Rattle.snp_model.specs.Step.{Position, Move, step_of, after, part_after, position_after, tries_again, passed_over, item_move, line_at, is_running, quiet_move, unbuilt_move, access_move, begin_move, table_move, need_move, cpu_access, host_access, table_word}
+use Rattle.snp_model.specs.GuestWalk.{is_canonical, is_private_leaf, gpn_below, guest_fault, after_guest_word, guest_walk_from, first_guest_read}
+use Rattle.snp_model.specs.Walking.{Processor, guest_words, nested_words_after, nested_words, guest_path, guest_stands, table_path, data_path, table_need, data_need, walk_need, need_after, index_of}
+use Rattle.snp_model.specs.Opening.{opening, opening_part}
 use Rattle.snp_model.specs.Run.{state_from, state_after, IsDefinedFrom, IsDefined}
 use Rattle.snp_model.specs.Attempts.{script_attempts, actors_attempts, attempts_of}
 use Rattle.snp_model.specs.Room.{lines_room, part_room, parts_room, room_of, IsShort, IsBounded, AreBounded}
@@ -141,24 +149,143 @@ walk_reads path (w ∷ ws) level (ends.Read f i) frame index some e =
     omega arith)
     (cases_eq level 1)
 
+-- so a guest walk
+record IsNoGuestRead (gpn index : ℕ) (stands : GuestEnd) : Type 0 where
+  reads_not : stands ≡ guest_ends.Read gpn index → ⊥
+
+guest_fault_is_no_read : (path : GuestPath) (present : Bool) (gpn index : ℕ) → IsNoGuestRead gpn index (guest_fault path present)
+guest_fault_is_no_read path present gpn index = record { reads_not = λ e. cc }
+
+guest_leaf_is_no_read : (leaf : ℕ) (private : Bool) (size : PageSize) (gpn index : ℕ) → IsNoGuestRead gpn index (guest_ends.Leaf leaf private size)
+guest_leaf_is_no_read leaf private size gpn index = record { reads_not = λ e. cc }
+
+last_guest_word : (path : GuestPath) (word gpn index : ℕ) → IsNoGuestRead gpn index (after_guest_word path 1 word)
+unfolding after_guest_word
+last_guest_word path word gpn index =
+    let P = IsNoGuestRead gpn index in
+    cond_both (not (has_bit word 0x1)) _ _ P (λ _. guest_fault_is_no_read path false gpn index)
+    (λ _. cond_both (path.write && not (has_bit word 0x2)) _ _ P (λ _. guest_fault_is_no_read path true gpn index)
+    (λ _. guest_leaf_is_no_read (gpn_below path 1 word) (is_private_leaf word) Small gpn index))
+
+abbrev IsGuestRead : GuestEnd → Type 0
+IsGuestRead stands = (gpn : ℕ) × (index : ℕ) × (stands ≡ guest_ends.Read gpn index)
+
+stood_at_guest_read : (path : GuestPath) (level : ℕ) (stands : GuestEnd) (words : List ℕ) (gpn index : ℕ) → guest_walk_from path level stands words ≡ guest_ends.Read gpn index → IsGuestRead stands
+unfolding guest_walk_from
+stood_at_guest_read path level (guest_ends.Read g i) words gpn index e = (g, i, refl)
+stood_at_guest_read path level (guest_ends.Leaf g private s) words gpn index e = cc
+stood_at_guest_read path level (guest_ends.Fault c) words gpn index e = cc
+
+guest_walk_reads : (path : GuestPath) (words : List ℕ) (level : ℕ) (stands : GuestEnd) (gpn index : ℕ) → 0 < level → guest_walk_from path level stands words ≡ guest_ends.Read gpn index → length words < level
+unfolding guest_walk_from
+guest_walk_reads path [] level stands gpn index some e = some
+guest_walk_reads path (w ∷ ws) level (guest_ends.Leaf g private size) gpn index some e = absurd ((guest_leaf_is_no_read g private size gpn index).reads_not e)
+guest_walk_reads path (w ∷ ws) level (guest_ends.Fault code) gpn index some e = cc
+guest_walk_reads path (w ∷ ws) level (guest_ends.Read g i) gpn index some e =
+    ⊎_elim
+    (λ (one : level ≡ 1).
+    let stood = stood_at_guest_read path (level - 1) (after_guest_word path level w) ws gpn index e in
+    absurd ((last_guest_word path w stood.0 stood.1).reads_not (subst (λ (l : ℕ). after_guest_word path l w ≡ guest_ends.Read stood.0 stood.1) one stood.2)))
+    (λ (more : level ≡ 1 → ⊥).
+    let rest = guest_walk_reads path ws (level - 1) (after_guest_word path level w) gpn index (omega arith) e in
+    omega arith)
+    (cases_eq level 1)
+
+-- an access that needs a word of a nested table has read fewer than four of them
+table_reads : (gpn index : ℕ) (stands : NestedEnd) (frame place : ℕ) → table_need gpn index stands ≡ needs.Nested frame place → IsRead stands
+table_reads gpn index (ends.Read f i) frame place e = (f, i, refl)
+table_reads gpn index (ends.Leaf f s) frame place e = cc
+table_reads gpn index (ends.Fault c) frame place e = cc
+
+data_reads : (gpn : ℕ) (private : Bool) (stands : NestedEnd) (frame place : ℕ) → data_need gpn private stands ≡ needs.Nested frame place → IsRead stands
+data_reads gpn private (ends.Read f i) frame place e = (f, i, refl)
+data_reads gpn private (ends.Leaf f s) frame place e = cc
+data_reads gpn private (ends.Fault c) frame place e = cc
+
+nested_few : (frames npt : ℕ) (op : Op) (stands : GuestEnd) (words : List ℕ) (frame place : ℕ) → walk_need frames npt op stands words ≡ needs.Nested frame place → length words < 4
+unfolding walk_need
+nested_few frames npt op (guest_ends.Read gpn index) words frame place e =
+    let path = table_path frames npt gpn in
+    let read = table_reads gpn index (nested_end path words) frame place e in
+    walk_reads path words 4 (first_read path) read.0 read.1 (omega arith) read.2
+nested_few frames npt op (guest_ends.Leaf gpn private size) words frame place e =
+    let path = data_path frames npt gpn private op in
+    let read = data_reads gpn private (nested_end path words) frame place e in
+    walk_reads path words 4 (first_read path) read.0 read.1 (omega arith) read.2
+nested_few frames npt op (guest_ends.Fault code) words frame place e = cc
+
+-- one that needs a word of a guest table has read fewer than four of these
+data_is_no_table : (gpn : ℕ) (private : Bool) (stands : NestedEnd) (g i f : ℕ) (s : PageSize) → data_need gpn private stands ≡ needs.Table g i f s → ⊥
+data_is_no_table gpn private (ends.Read frame place) g i f s e = cc
+data_is_no_table gpn private (ends.Leaf frame size) g i f s e = cc
+data_is_no_table gpn private (ends.Fault code) g i f s e = cc
+
+table_stands : (frames npt : ℕ) (op : Op) (stands : GuestEnd) (words : List ℕ) (g i f : ℕ) (s : PageSize) → walk_need frames npt op stands words ≡ needs.Table g i f s → IsGuestRead stands
+unfolding walk_need
+table_stands frames npt op (guest_ends.Read gpn index) words g i f s e = (gpn, index, refl)
+table_stands frames npt op (guest_ends.Leaf gpn private size) words g i f s e = absurd (data_is_no_table gpn private _ g i f s e)
+table_stands frames npt op (guest_ends.Fault code) words g i f s e = cc
+
+tables_few : (paging : Paging) (address : ℕ) (op : Op) (words : List ℕ) → IsGuestRead (guest_stands paging address op words) → length words < 4
+unfolding guest_stands
+tables_few Flat address op words read = absurd ((guest_leaf_is_no_read _ _ _ read.0 read.1).reads_not read.2)
+tables_few (Four root) address op words read =
+    let path = guest_path root address op in
+    guest_walk_reads path words 4 (first_guest_read path) read.0 read.1 (omega arith) read.2
+
 -- the words that deeds have read
-nested_words_append : (a b : List Deed) → nested_words (a ++ b) ≡ nested_words a ++ nested_words b
-unfolding nested_words
-nested_words_append [] b = refl
-nested_words_append (deeds.Nested f i v ∷ a) b = ap (λ (ws : List ℕ). v ∷ ws) (nested_words_append a b)
-nested_words_append (deed ∷ a) b = nested_words_append a b
+pub guest_words_append : (a b : List Deed) → guest_words (a ++ b) ≡ guest_words a ++ guest_words b
+unfolding guest_words
+guest_words_append [] b = refl
+guest_words_append (deeds.Table g i f (Some v) ∷ a) b = ap (λ (ws : List ℕ). v ∷ ws) (guest_words_append a b)
+guest_words_append (deeds.Table g i f None ∷ a) b = guest_words_append a b
+guest_words_append (deed ∷ a) b = guest_words_append a b
+
+pub nested_words_append : (words : List ℕ) (a b : List Deed) → nested_words_after words (a ++ b) ≡ nested_words_after (nested_words_after words a) b
+unfolding nested_words_after
+nested_words_append words [] b = refl
+nested_words_append words (deeds.Nested f i v ∷ a) b = nested_words_append (words ++ v ∷ []) a b
+nested_words_append words (deeds.Table g i f v ∷ a) b = nested_words_append [] a b
+nested_words_append words (deed ∷ a) b = nested_words_append words a b
+
+-- a word more of either
+pub nested_words_more : (ds : List Deed) (f i v : ℕ) → nested_words (ds ++ deeds.Nested f i v ∷ []) ≡ nested_words ds ++ v ∷ []
+unfolding nested_words_after
+nested_words_more ds f i v = nested_words_append [] ds (deeds.Nested f i v ∷ [])
+
+pub guest_words_same : (ds : List Deed) (f i v : ℕ) → guest_words (ds ++ deeds.Nested f i v ∷ []) ≡ guest_words ds
+unfolding guest_words
+guest_words_same ds f i v = guest_words_append ds (deeds.Nested f i v ∷ []) ∙ append-nil (guest_words ds)
+
+pub guest_words_more : (ds : List Deed) (g i f v : ℕ) → guest_words (ds ++ deeds.Table g i f (Some v) ∷ []) ≡ guest_words ds ++ v ∷ []
+unfolding guest_words
+guest_words_more ds g i f v = guest_words_append ds (deeds.Table g i f (Some v) ∷ [])
+
+pub nested_words_anew : (ds : List Deed) (g i f : ℕ) (v : Option ℕ) → nested_words (ds ++ deeds.Table g i f v ∷ []) ≡ []
+unfolding nested_words_after
+nested_words_anew ds g i f v = nested_words_append [] ds (deeds.Table g i f v ∷ [])
 
 short_more : (ds : List Deed) (f i v : ℕ) → IsShort ds → length (nested_words ds) < 4 → IsShort (ds ++ deeds.Nested f i v ∷ [])
-unfolding nested_words
 short_more ds f i v short few =
-    let words = ap length (nested_words_append ds (deeds.Nested f i v ∷ [])) ∙ length_push (nested_words ds) v in
+    let nested = ap length (nested_words_more ds f i v) ∙ length_push (nested_words ds) v in
+    let tables = ap length (guest_words_same ds f i v) in
     let made = length_push ds (deeds.Nested f i v) in
     let walked = short.walked in
-    record { walked = omega arith; few = omega arith }
+    let few_tables = short.few_tables in
+    record { walked = omega arith; few_tables = omega arith; few = omega arith }
+
+short_table : (ds : List Deed) (g i f v : ℕ) → IsShort ds → length (guest_words ds) < 4 → IsShort (ds ++ deeds.Table g i f (Some v) ∷ [])
+short_table ds g i f v short more =
+    let nested = ap length (nested_words_anew ds g i f (Some v)) in
+    let tables = ap length (guest_words_more ds g i f v) ∙ length_push (guest_words ds) v in
+    let made = length_push ds (deeds.Table g i f (Some v)) in
+    let walked = short.walked in
+    let few = short.few in
+    record { walked = omega arith; few_tables = omega arith; few = omega arith }
 
 short_begun : (ds : List Deed) → ds ≡ [] → IsShort (ds ++ deeds.Begin ∷ [])
-unfolding nested_words
-short_begun ds none = subst (λ (es : List Deed). IsShort (es ++ deeds.Begin ∷ [])) (sym none) (record { walked = omega arith; few = omega arith })
+unfolding guest_words nested_words_after
+short_begun ds none = subst (λ (es : List Deed). IsShort (es ++ deeds.Begin ∷ [])) (sym none) (record { walked = omega arith; few_tables = omega arith; few = omega arith })
 
 -- a move leaves its attempt short, if it leaves it open
 record LeavesShort (part : ActorPart) (move : Move) : Type 0 where
@@ -183,30 +310,39 @@ begin_short contents part context address none =
     cond_both (not (is_running context.state)) _ _ (LeavesShort part) (λ _. begun (Some outcomes.Offline))
     (λ _. cond_both (not (is_canonical address)) _ _ (LeavesShort part) (λ _. begun (Some outcomes.Gp)) (λ _. begun None))
 
-flat_short : (frames : ℕ) (guests : List GuestSpec) (contents : Contents) (part : ActorPart) (cpu : Processor) (address : ℕ) (op : Op) (stands : NestedEnd)
-    → nested_end (flat_path frames cpu address op) (nested_words part.deeds) ≡ stands → IsShort part.deeds → LeavesShort part (flat_move frames guests contents part cpu address op stands)
-unfolding flat_move nested_move
-flat_short frames guests contents part cpu address op (ends.Read frame index) is short =
-    let path = flat_path frames cpu address op in
-    let few = walk_reads path (nested_words part.deeds) 4 (first_read path) frame index (omega arith) is in
-    record { open_is = λ _. short_more part.deeds frame index (table_word (contents.pages frame) index) short few }
-flat_short frames guests contents part cpu address op (ends.Leaf frame size) is short =
-    let place = flat_place (asid_of guests cpu.guest) cpu address frame size in
-    access_short contents part (deeds.Access (flat_gpn address) (index_of address) frame true) (private_verdict (contents.pages frame).facts place op) op frame (index_of address)
-flat_short frames guests contents part cpu address op (ends.Fault code) is short = unbuilt_short contents part
+table_short : (frames : ℕ) (contents : Contents) (part : ActorPart) (cpu : Processor) (address : ℕ) (op : Op) (verdict : Verdict) (gpn index frame : ℕ)
+    → length (guest_words part.deeds) < 4 → IsShort part.deeds → LeavesShort part (table_move frames contents part cpu address op verdict gpn index frame)
+unfolding table_move
+table_short frames contents part cpu address op Pass gpn index frame more short = record { open_is = λ _. short_table part.deeds gpn index frame _ short more }
+table_short frames contents part cpu address op Hidden gpn index frame more short = record { open_is = λ none. cc }
+table_short frames contents part cpu address op (Fault outcome) gpn index frame more short = record { open_is = λ none. cc }
 
-flat_access_short : (frames : ℕ) (guests : List GuestSpec) (contents : Contents) (part : ActorPart) (cpu : Processor) (address : ℕ) (op : Op) (made : List Deed)
-    → part.deeds ≡ made → IsShort part.deeds → LeavesShort part (flat_access frames guests contents part cpu address op made)
-unfolding flat_access
-flat_access_short frames guests contents part cpu address op [] is short = begin_short contents part (contents.contexts cpu.guest) address is
-flat_access_short frames guests contents part cpu address op (deed ∷ others) is short =
-    flat_short frames guests contents part cpu address op _ (ap (λ (ds : List Deed). nested_end (flat_path frames cpu address op) (nested_words ds)) is) short
+need_short : (frames : ℕ) (guests : List GuestSpec) (contents : Contents) (part : ActorPart) (cpu : Processor) (address : ℕ) (op : Op) (need : Need)
+    → need_after frames cpu address op part.deeds ≡ need → IsShort part.deeds → LeavesShort part (need_move frames guests contents part cpu address op need)
+unfolding need_move
+need_short frames guests contents part cpu address op (needs.Nested frame index) is short =
+    let few = nested_few frames cpu.npt op (guest_stands cpu.paging address op (guest_words part.deeds)) (nested_words part.deeds) frame index is in
+    record { open_is = λ _. short_more part.deeds frame index (table_word (contents.pages frame) index) short few }
+need_short frames guests contents part cpu address op (needs.Table gpn index frame size) is short =
+    let stands = guest_stands cpu.paging address op (guest_words part.deeds) in
+    let read = table_stands frames cpu.npt op stands (nested_words part.deeds) gpn index frame size is in
+    table_short frames contents part cpu address op _ gpn index frame (tables_few cpu.paging address op (guest_words part.deeds) read) short
+need_short frames guests contents part cpu address op (needs.Data gpn private frame size) is short =
+    access_short contents part (deeds.Access gpn (index_of address) frame private) _ op frame (index_of address)
+need_short frames guests contents part cpu address op (needs.Fault outcome) is short = unbuilt_short contents part
+
+cpu_access_short : (frames : ℕ) (guests : List GuestSpec) (contents : Contents) (part : ActorPart) (cpu : Processor) (address : ℕ) (op : Op) (made : List Deed)
+    → part.deeds ≡ made → IsShort part.deeds → LeavesShort part (cpu_access frames guests contents part cpu address op made)
+unfolding cpu_access
+cpu_access_short frames guests contents part cpu address op [] is short = begin_short contents part (contents.contexts cpu.guest) address is
+cpu_access_short frames guests contents part cpu address op (deed ∷ others) is short =
+    need_short frames guests contents part cpu address op _ (ap (λ (ds : List Deed). need_after frames cpu address op ds) is) short
 
 -- so each item's move
 move_short : (frames : ℕ) (guests : List GuestSpec) (view : View) (part : ActorPart) (role : Role) (item : Item) → IsShort part.deeds → LeavesShort part (item_move frames guests view part role item)
 unfolding item_move host_access
-move_short frames guests view part (Cpu guest vmpl npt Flat) (Access address op) short =
-    flat_access_short frames guests view.contents part (record { guest = guest; vmpl = vmpl; npt = npt }) address op part.deeds refl short
+move_short frames guests view part (Cpu guest vmpl npt paging) (Access address op) short =
+    cpu_access_short frames guests view.contents part (record { guest = guest; vmpl = vmpl; npt = npt; paging = paging }) address op part.deeds refl short
 move_short frames guests view part Host (Access address op) short =
     access_short view.contents part (deeds.Host (address / 4096) (index_of address)) (host_verdict (view.contents.pages (address / 4096)).facts op) op (address / 4096) (index_of address)
 move_short frames guests view part role (Skip count test) short = record { open_is = λ none. cc }
@@ -214,7 +350,7 @@ move_short frames guests view part role item short = unbuilt_short view.contents
 
 -- a short attempt has fewer deeds than an array of 32 holds, also with the next one
 pub deeds_short : (ds : List Deed) → IsShort ds → length ds < 32
-deeds_short ds short = let walked = short.walked in let few = short.few in omega arith
+deeds_short ds short = let walked = short.walked in let few_tables = short.few_tables in let few = short.few in omega arith
 
 -- a move lowers its actor's room, and leaves its part bounded
 record Lowers (old new : ActorPart) : Type 0 where
@@ -222,8 +358,8 @@ record Lowers (old new : ActorPart) : Type 0 where
   less : part_room new < part_room old
 
 no_deeds_short : IsShort []
-unfolding nested_words
-no_deeds_short = record { walked = omega arith; few = omega arith }
+unfolding guest_words nested_words_after
+no_deeds_short = record { walked = omega arith; few_tables = omega arith; few = omega arith }
 
 part_lowers : (p : ActorPart) (move : Move) (outcome : Option Outcome) → IsBounded p → p.item < length p.script → (outcome ≡ None → IsShort (p.deeds ++ move.deed ∷ [])) → Lowers p (part_after p move outcome)
 unfolding part_after part_room

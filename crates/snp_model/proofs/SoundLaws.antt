@@ -18,7 +18,7 @@ use Rattle.snp_model.specs.declared.item.SkipTest.TheVariants.{Value}
 use Rattle.snp_model.specs.declared.scenario.Actor.{Actor}
 use Rattle.snp_model.specs.declared.scenario.GuestSpec.{GuestSpec}
 use Rattle.snp_model.specs.declared.scenario.PageSpec.{PageSpec}
-use Rattle.snp_model.specs.declared.scenario.Paging.TheVariants.{Flat}
+use Rattle.snp_model.specs.declared.scenario.Paging.TheVariants.{Flat, Four}
 use Rattle.snp_model.specs.declared.scenario.Role.{Role}
 use Rattle.snp_model.specs.declared.scenario.Role.TheVariants.{Cpu, Host, Firmware}
 use Rattle.snp_model.specs.declared.scenario.Scenario.{Scenario}
@@ -30,7 +30,7 @@ use Rattle.snp_model.specs.Lines.{◌>>=◌, ◌>>◌, cut_at, decimal, is_row, 
 use Rattle.snp_model.specs.declared.reading.Quantity.{Quantity}
 use Rattle.snp_model.specs.declared.reading.Quantity.TheVariants as quantities
 use Rattle.snp_model.specs.Reading.{Made, nothing, reading, closed, Fault, refused, is_passed_over, turns_spell, order_of, by_rule, within, fit, fit_line, fit_words, add_regions, add_guest, add_page, add_word, add_actor, add_line, add_item_of, add_item, add_order, add_words, turns_count, Makes, Valid}
-use Rattle.snp_model.specs.ScenarioLines.{frames_of, regions_row, turn_from, turn_parts, turn_of, turns_after, is_order_row, order_row, version_row, first_scenario, has_no, before_pages, before_words, before_actors, before_orders, idle, opening, opened_of, next_number, page_size, guest_row, page_row, word_row, cpu_row, host_row, with_line, has_asid, is_opened, is_declared, apart, collide, key_of, validity}
+use Rattle.snp_model.specs.ScenarioLines.{frames_of, regions_row, turn_from, turn_parts, turn_of, turns_after, is_order_row, order_row, version_row, first_scenario, has_no, before_pages, before_words, before_actors, before_orders, idle, opening, opened_of, next_number, page_size, guest_row, page_row, word_row, cpu_row, tables_row, host_row, with_line, has_asid, is_opened, is_declared, apart, collide, key_of, validity}
 use Rattle.snp_model.specs.Sound.{Pairwise, IsGuest, AsidsDiffer, IsPage, FramesDiffer, GpnsDiffer, IsWord, IsActor, IsCpu, IsRole, IsSkip, IsItemOf, IsLineOf, IsTurn, IsSound}
 
 -- steps that gave a value
@@ -136,7 +136,7 @@ word_more frames frames' more word is = record { frame = let h = is.frame in ome
 
 role_more : (frames frames' guests guests' : ℕ) → frames ≤ frames' → guests ≤ guests' → (role : Role) → IsRole frames guests role → IsRole frames' guests' role
 role_more frames frames' guests guests' more_frames more_guests (Cpu guest vmpl npt paging) is =
-    record { guest_some = is.guest_some; guest_most = let h = is.guest_most in omega arith; vmpl_below = is.vmpl_below; npt_below = let h = is.npt_below in omega arith; paging_flat = is.paging_flat }
+    record { guest_some = is.guest_some; guest_most = let h = is.guest_most in omega arith; vmpl_below = is.vmpl_below; npt_below = let h = is.npt_below in omega arith; root_below = is.root_below }
 role_more frames frames' guests guests' more_frames more_guests Host is = tt
 role_more frames frames' guests guests' more_frames more_guests Firmware is = is
 
@@ -286,13 +286,41 @@ cpu_chain c (Ok n) (Ok u) (Ok g) (Ok w) (Ok v) (Ok x) (Ok f) (Ok y) made b1 b2 h
     let same : role ≡ made = let e = step.2 in cc in
     let declared = require_ok (is_declared c.guests g) Guest step.0 step.1 in
     subst (IsRole (frames_of c) (length c.guests)) same
-    (let is : IsCpu (frames_of c) (length c.guests) g v f Flat = record { guest_some = grind (arith, nat_tests, declared); guest_most = grind (arith, nat_tests, declared); vmpl_below = b1 v refl; npt_below = b2 f refl; paging_flat = refl } in is)
+    (let is : IsCpu (frames_of c) (length c.guests) g v f Flat = record { guest_some = grind (arith, nat_tests, declared); guest_most = grind (arith, nat_tests, declared); vmpl_below = b1 v refl; npt_below = b2 f refl; root_below = tt } in is)
 
 cpu_row_ok : (c : Scenario) (ws : List (List ℕ)) (made : Role) → cpu_row c ws ≡ Ok made → IsRole (frames_of c) (length c.guests) made
 unfolding cpu_row
 cpu_row_ok c ws made h =
     cpu_chain c (next_number (length c.actors) (word ws 1)) (fixed (word ws 2) (codes "cpu")) (number (word ws 3)) (fixed (word ws 4) (codes "vmpl")) (below 4 (word ws 5)) (fixed (word ws 6) (codes "npt")) (below (frames_of c) (word ws 7)) (fixed (word ws 8) (codes "flat")) made
     (below_ok _ _) (below_ok _ _) h
+
+tables_chain : (c : Scenario) (next : Result ℕ Reason) (first : Result (Unit {0}) Reason) (guest : Result ℕ Reason) (second : Result (Unit {0}) Reason) (vmpl : Result ℕ Reason) (third : Result (Unit {0}) Reason) (npt : Result ℕ Reason) (fourth : Result (Unit {0}) Reason) (root : Result ℕ Reason) (made : Role)
+    → ((n : ℕ) → vmpl ≡ Ok n → n < 4) → ((n : ℕ) → npt ≡ Ok n → n < frames_of c) → ((n : ℕ) → root ≡ Ok n → n < 2 ^ 36)
+    → (next >> (first >> (guest >>= (λ (g : ℕ). second >> (vmpl >>= (λ (v : ℕ). third >> (npt >>= (λ (n : ℕ). fourth >> (root >>= (λ (r : ℕ). require (is_declared c.guests g) Guest >> Ok (Cpu g v n (Four r)))))))))))) ≡ Ok made
+    → IsRole (frames_of c) (length c.guests) made
+tables_chain c (Err e) first guest second vmpl third npt fourth root made b1 b2 b3 h = absurd (cc)
+tables_chain c (Ok n) (Err e) guest second vmpl third npt fourth root made b1 b2 b3 h = absurd (cc)
+tables_chain c (Ok n) (Ok u) (Err e) second vmpl third npt fourth root made b1 b2 b3 h = absurd (cc)
+tables_chain c (Ok n) (Ok u) (Ok g) (Err e) vmpl third npt fourth root made b1 b2 b3 h = absurd (cc)
+tables_chain c (Ok n) (Ok u) (Ok g) (Ok w) (Err e) third npt fourth root made b1 b2 b3 h = absurd (cc)
+tables_chain c (Ok n) (Ok u) (Ok g) (Ok w) (Ok v) (Err e) npt fourth root made b1 b2 b3 h = absurd (cc)
+tables_chain c (Ok n) (Ok u) (Ok g) (Ok w) (Ok v) (Ok x) (Err e) fourth root made b1 b2 b3 h = absurd (cc)
+tables_chain c (Ok n) (Ok u) (Ok g) (Ok w) (Ok v) (Ok x) (Ok f) (Err e) root made b1 b2 b3 h = absurd (cc)
+tables_chain c (Ok n) (Ok u) (Ok g) (Ok w) (Ok v) (Ok x) (Ok f) (Ok y) (Err e) made b1 b2 b3 h = absurd (cc)
+tables_chain c (Ok n) (Ok u) (Ok g) (Ok w) (Ok v) (Ok x) (Ok f) (Ok y) (Ok r) made b1 b2 b3 h =
+    let role : Role = Cpu g v f (Four r) in
+    let final : Result Role Reason = Ok role in
+    let step = then_ok (require (is_declared c.guests g) Guest) final made h in
+    let same : role ≡ made = let e = step.2 in cc in
+    let declared = require_ok (is_declared c.guests g) Guest step.0 step.1 in
+    subst (IsRole (frames_of c) (length c.guests)) same
+    (let is : IsCpu (frames_of c) (length c.guests) g v f (Four r) = record { guest_some = grind (arith, nat_tests, declared); guest_most = grind (arith, nat_tests, declared); vmpl_below = b1 v refl; npt_below = b2 f refl; root_below = b3 r refl } in is)
+
+tables_row_ok : (c : Scenario) (ws : List (List ℕ)) (made : Role) → tables_row c ws ≡ Ok made → IsRole (frames_of c) (length c.guests) made
+unfolding tables_row
+tables_row_ok c ws made h =
+    tables_chain c (next_number (length c.actors) (word ws 1)) (fixed (word ws 2) (codes "cpu")) (number (word ws 3)) (fixed (word ws 4) (codes "vmpl")) (below 4 (word ws 5)) (fixed (word ws 6) (codes "npt")) (below (frames_of c) (word ws 7)) (fixed (word ws 8) (codes "gcr3")) (below (2 ^ 36) (word ws 9)) made
+    (below_ok _ _) (below_ok _ _) (below_ok _ _) h
 
 host_chain : (c : Scenario) (next : Result ℕ Reason) (first : Result (Unit {0}) Reason) (made : Role) → (next >> (first >> Ok Host)) ≡ Ok made → IsRole (frames_of c) (length c.guests) made
 host_chain c (Err e) first made h = absurd (cc)
@@ -688,7 +716,8 @@ line_keeps c ws next draft h =
     let final : Result Made Fault = cond (is_row ws (codes "end") 1 && not (c.regions == 0)) (Ok (closed c)) item in
     let order = cond (is_order_row ws && not (c.regions == 0)) (add_order c ws) final in
     let host = cond (is_row ws (codes "actor") 3 && before_orders c) (add_actor c (host_row c ws)) order in
-    let cpu = cond (is_row ws (codes "actor") 9 && before_orders c) (add_actor c (cpu_row c ws)) host in
+    let tables = cond (is_row ws (codes "actor") 10 && before_orders c) (add_actor c (tables_row c ws)) host in
+    let cpu = cond (is_row ws (codes "actor") 9 && before_orders c) (add_actor c (cpu_row c ws)) tables in
     let words = cond (is_row ws (codes "word") 4 && before_actors c) (add_word c ws) cpu in
     let pages = cond (is_row ws (codes "page") 11 && before_words c) (add_page c ws) words in
     let guests = cond (is_row ws (codes "guest") 9 && before_pages c) (add_guest c ws) pages in
@@ -700,15 +729,17 @@ line_keeps c ws next draft h =
     (λ fits made. pages_keep c ws next draft made)
     (λ no_pages h3. select (is_row ws (codes "word") 4 && before_actors c) (add_word c ws) cpu next (IsMade next)
     (λ fits made. words_keep c ws next draft made)
-    (λ no_words h4. select (is_row ws (codes "actor") 9 && before_orders c) (add_actor c (cpu_row c ws)) host next (IsMade next)
+    (λ no_words h4. select (is_row ws (codes "actor") 9 && before_orders c) (add_actor c (cpu_row c ws)) tables next (IsMade next)
     (λ fits made. actors_keep c (cpu_row c ws) next draft (cpu_row_ok c ws) made)
-    (λ no_cpus h5. select (is_row ws (codes "actor") 3 && before_orders c) (add_actor c (host_row c ws)) order next (IsMade next)
+    (λ no_cpus h5. select (is_row ws (codes "actor") 10 && before_orders c) (add_actor c (tables_row c ws)) host next (IsMade next)
+    (λ fits made. actors_keep c (tables_row c ws) next draft (tables_row_ok c ws) made)
+    (λ no_tables h9. select (is_row ws (codes "actor") 3 && before_orders c) (add_actor c (host_row c ws)) order next (IsMade next)
     (λ fits made. actors_keep c (host_row c ws) next draft (host_row_ok c ws) made)
     (λ no_hosts h6. select (is_order_row ws && not (c.regions == 0)) (add_order c ws) final next (IsMade next)
     (λ fits made. orders_keep c ws next draft made)
     (λ no_orders h7. select (is_row ws (codes "end") 1 && not (c.regions == 0)) (Ok (closed c)) item next (IsMade next)
     (λ fits made. ended c next draft (both_second (is_row ws (codes "end") 1) (not (c.regions == 0)) fits) made)
-    (λ no_end made. item_keeps c ws next draft made) h7) h6) h5) h4) h3) h2) h1) h
+    (λ no_end made. item_keeps c ws next draft made) h7) h6) h9) h5) h4) h3) h2) h1) h
   where
     both_second : (a b : Bool) → (a && b) ≡ true → b ≡ true
     both_second true b h = h

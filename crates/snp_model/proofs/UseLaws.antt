@@ -16,17 +16,20 @@ use Rattle.snp_model.specs.declared.item.Op.{Op}
 use Rattle.snp_model.specs.declared.item.Op.TheVariants.{Load, Store, Swap, Compare, Xor}
 use Rattle.snp_model.specs.declared.scenario.GuestSpec.{GuestSpec}
 use Rattle.snp_model.specs.declared.scenario.Paging.{Paging}
-use Rattle.snp_model.specs.declared.scenario.Paging.TheVariants.{Flat}
 use Rattle.snp_model.specs.declared.scenario.Role.{Role}
 use Rattle.snp_model.specs.declared.scenario.Role.TheVariants.{Cpu, Host, Firmware}
-use Rattle.snp_model.specs.declared.walk.NestedEnd.{NestedEnd}
-use Rattle.snp_model.specs.declared.walk.NestedEnd.TheVariants as ends
+use Rattle.snp_model.specs.declared.walk.Need.{Need}
+use Rattle.snp_model.specs.declared.walk.Need.TheVariants as needs
+use Rattle.snp_model.specs.declared.entry.PageSize.{PageSize}
+use Rattle.snp_model.specs.Accesses.{guest_verdict}
+use Rattle.snp_model.specs.GuestWalk.{is_canonical}
+use Rattle.snp_model.specs.Walking.{Processor, index_of}
 use Rattle.snp_model.specs.Opening.{asid_of}
 use Rattle.snp_model.specs.Operations.{outcome_of}
 use Rattle.snp_model.specs.Skips.{skip_outcome}
-use Rattle.snp_model.specs.Verdicts.{private_verdict, private_refusal, host_verdict, is_large, lacks}
+use Rattle.snp_model.specs.Verdicts.{private_verdict, private_refusal, shared_verdict, host_verdict, is_large, lacks}
 use Rattle.snp_model.specs.State.{Pages, Context, Contents, ActorPart, View, word_of}
-use Rattle.snp_model.specs.Step.{Move, item_move, is_running, is_canonical, quiet_move, unbuilt_move, access_move, pages_after, begin_move, nested_move, flat_move, flat_access, host_access, flat_place, flat_gpn, index_of, Processor}
+use Rattle.snp_model.specs.Step.{Move, item_move, is_running, quiet_move, unbuilt_move, access_move, pages_after, begin_move, table_move, need_move, cpu_access, host_access, data_place, table_place}
 use Rattle.snp_model.specs.GuestMemory.{Memory, Use, Untouched, use_of_word, use_of, use_for, IsLegalUse, used}
 use Rattle.snp_model.specs.Holders.{Archive, InFrame, IsHeldAs, Core}
 use Rattle.snp_model.proofs.CoreLaws.{with_word_length, core_writes_elsewhere, core_may_read, core_reads, core_writes}
@@ -248,36 +251,98 @@ host_fine guest asid archive memory old part item op frame index Pass before is 
 host_fine guest asid archive memory old part item op frame index Hidden before is = record { fine = nothing_fine asid archive memory old before }
 host_fine guest asid archive memory old part item op frame index (Fault outcome) before is = record { fine = nothing_fine asid archive memory old before }
 
--- a guest processor's access
-flat_fine : (guest asid : ℕ) (guests : List GuestSpec) (archive : Archive) (memory : Memory) (frames : ℕ) (old : Contents) (part : ActorPart) (owner vmpl npt : ℕ) (address : ℕ) (op : Op) (stands : NestedEnd)
-    → Before asid archive memory old → Owns guest asid guests owner
-    → MoveFine guest asid archive memory old (Cpu owner vmpl npt Flat) (Access address op) (flat_move frames guests old part (record { guest = owner; vmpl = vmpl; npt = npt }) address op stands)
-unfolding flat_move nested_move use_of
-flat_fine guest asid guests archive memory frames old part owner vmpl npt address op (ends.Read frame index) before owns =
-    quiet_fine guest asid archive memory old part (Cpu owner vmpl npt Flat) (Access address op) _ _ before refl
-flat_fine guest asid guests archive memory frames old part owner vmpl npt address op (ends.Leaf frame size) before owns =
-    let cpu : Processor = record { guest = owner; vmpl = vmpl; npt = npt } in
-    private_fine guest asid guests archive memory old part owner vmpl npt Flat address op (flat_gpn address) frame (index_of address) (flat_place (asid_of guests owner) cpu address frame size) _
-    before owns (omega arith) refl refl refl
-flat_fine guest asid guests archive memory frames old part owner vmpl npt address op (ends.Fault code) before owns =
-    unbuilt_fine guest asid archive memory old part (Cpu owner vmpl npt Flat) (Access address op) before
+-- a shared access passes where it writes no guest's page
+shared_holds_none : (facts : RmpEntry) (place : Place) (op : Op) → shared_verdict facts place op ≡ Pass → facts.assigned ≡ false
+unfolding shared_verdict
+shared_holds_none facts place Load e = grind (arith, nat_tests)
+shared_holds_none facts place (Store value) e = grind (arith, nat_tests)
+shared_holds_none facts place (Swap value) e = grind (arith, nat_tests)
+shared_holds_none facts place (Compare expected next) e = grind (arith, nat_tests)
+shared_holds_none facts place (Xor value) e = grind (arith, nat_tests)
 
-flat_access_fine : (guest asid : ℕ) (guests : List GuestSpec) (archive : Archive) (memory : Memory) (frames : ℕ) (old : Contents) (part : ActorPart) (owner vmpl npt : ℕ) (address : ℕ) (op : Op) (made : List Deed)
+-- a shared access, by what the RMP says
+shared_fine : (guest asid : ℕ) (archive : Archive) (memory : Memory) (old : Contents) (part : ActorPart) (role : Role) (item : Item) (op : Op) (gpn frame index : ℕ) (place : Place) (verdict : Verdict)
+    → Before asid archive memory old → shared_verdict (old.pages frame).facts place op ≡ verdict
+    → MoveFine guest asid archive memory old role item (access_move old part (deeds.Access gpn index frame false) verdict op frame index)
+unfolding access_move use_of
+shared_fine guest asid archive memory old part role item op gpn frame index place Pass before is =
+    let word = word_of (old.pages frame) index in
+    let deed = deeds.Access gpn index frame false in
+    record {
+      fine = subst (Fine asid archive memory old (record old { pages = pages_after op frame index word old.pages })) (sym (untouched_for guest role deed item (Some (outcome_of op word)) refl))
+          (elsewhere_fine asid archive memory old op frame index word before (λ q h. true≢false (sym h.assigned ∙ shared_holds_none (old.pages frame).facts place op is)));
+    }
+shared_fine guest asid archive memory old part role item op gpn frame index place Hidden before is =
+    quiet_fine guest asid archive memory old part role item (deeds.Access gpn index frame false) (Some outcomes.Opaque) before refl
+shared_fine guest asid archive memory old part role item op gpn frame index place (Fault outcome) before is =
+    quiet_fine guest asid archive memory old part role item (deeds.Access gpn index frame false) (Some outcome) before refl
+
+-- a data access, private or shared
+data_fine : (guest asid : ℕ) (guests : List GuestSpec) (archive : Archive) (memory : Memory) (old : Contents) (part : ActorPart) (owner vmpl npt : ℕ) (paging : Paging) (address : ℕ) (op : Op)
+    (gpn : ℕ) (private : Bool) (frame : ℕ) (size : PageSize)
     → Before asid archive memory old → Owns guest asid guests owner
-    → MoveFine guest asid archive memory old (Cpu owner vmpl npt Flat) (Access address op) (flat_access frames guests old part (record { guest = owner; vmpl = vmpl; npt = npt }) address op made)
-unfolding flat_access
-flat_access_fine guest asid guests archive memory frames old part owner vmpl npt address op [] before owns =
-    begin_fine guest asid archive memory old part (Cpu owner vmpl npt Flat) (Access address op) (old.contexts owner) address before
-flat_access_fine guest asid guests archive memory frames old part owner vmpl npt address op (deed ∷ others) before owns =
-    flat_fine guest asid guests archive memory frames old part owner vmpl npt address op _ before owns
+    → MoveFine guest asid archive memory old (Cpu owner vmpl npt paging) (Access address op)
+    (access_move old part (deeds.Access gpn (index_of address) frame private) (guest_verdict (old.pages frame).facts (data_place (asid_of guests owner) vmpl address gpn private frame size) op) op frame (index_of address))
+data_fine guest asid guests archive memory old part owner vmpl npt paging address op gpn true frame size before owns =
+    private_fine guest asid guests archive memory old part owner vmpl npt paging address op gpn frame (index_of address) (data_place (asid_of guests owner) vmpl address gpn true frame size) _
+    before owns (omega arith) refl refl refl
+data_fine guest asid guests archive memory old part owner vmpl npt paging address op gpn false frame size before owns =
+    shared_fine guest asid archive memory old part (Cpu owner vmpl npt paging) (Access address op) op gpn frame (index_of address) (data_place (asid_of guests owner) vmpl address gpn false frame size) _ before refl
+
+-- a word of a guest table, by what the RMP says: where it is read, it is a word of the guest's own page
+table_fine : (guest asid : ℕ) (guests : List GuestSpec) (archive : Archive) (memory : Memory) (frames : ℕ) (old : Contents) (part : ActorPart) (cpu : Processor) (address : ℕ) (op : Op) (verdict : Verdict)
+    (gpn index frame : ℕ) (place : Place)
+    → Before asid archive memory old → Owns guest asid guests cpu.guest → place.asid ≡ asid_of guests cpu.guest → place.gpn ≡ gpn
+    → private_verdict (old.pages frame).facts place Load ≡ verdict
+    → MoveFine guest asid archive memory old (Cpu cpu.guest cpu.vmpl cpu.npt cpu.paging) (Access address op) (table_move frames old part cpu address op verdict gpn index frame)
+unfolding table_move use_for use_of used
+table_fine guest asid guests archive memory frames old part cpu address op Pass gpn index frame place before owns asid_is gpn_is is =
+    let facts = (old.pages frame).facts in
+    let word = word_of (old.pages frame) index in
+    let passed = pass_holds facts place Load is in
+    let h : IsHeldAs facts (asid_of guests cpu.guest) gpn = subst (λ (p : ℕ). IsHeldAs facts (asid_of guests cpu.guest) p) gpn_is (held_asid facts place.asid (asid_of guests cpu.guest) place.gpn asid_is passed) in
+    record {
+      fine = cond_both (eqb cpu.guest guest) _ _ (Fine asid archive memory old old)
+          (λ same.
+          let own = held_asid facts (asid_of guests cpu.guest) asid gpn (owns.own (eqb-true cpu.guest guest same)) h in
+          record { legal = core_may_read old.pages archive asid memory gpn frame index before.core own; core = core_reads old.pages archive asid memory gpn frame index word before.core own refl; whole = before.whole })
+          (λ different. nothing_fine asid archive memory old before);
+    }
+table_fine guest asid guests archive memory frames old part cpu address op Hidden gpn index frame place before owns asid_is gpn_is is =
+    quiet_fine guest asid archive memory old part (Cpu cpu.guest cpu.vmpl cpu.npt cpu.paging) (Access address op) (deeds.Table gpn index frame None) (Some outcomes.Opaque) before refl
+table_fine guest asid guests archive memory frames old part cpu address op (Fault outcome) gpn index frame place before owns asid_is gpn_is is =
+    quiet_fine guest asid archive memory old part (Cpu cpu.guest cpu.vmpl cpu.npt cpu.paging) (Access address op) (deeds.Table gpn index frame None) (Some outcome) before refl
+
+-- a guest processor's access
+need_fine : (guest asid : ℕ) (guests : List GuestSpec) (archive : Archive) (memory : Memory) (frames : ℕ) (old : Contents) (part : ActorPart) (cpu : Processor) (address : ℕ) (op : Op) (need : Need)
+    → Before asid archive memory old → Owns guest asid guests cpu.guest
+    → MoveFine guest asid archive memory old (Cpu cpu.guest cpu.vmpl cpu.npt cpu.paging) (Access address op) (need_move frames guests old part cpu address op need)
+unfolding need_move use_of
+need_fine guest asid guests archive memory frames old part cpu address op (needs.Nested frame index) before owns =
+    quiet_fine guest asid archive memory old part (Cpu cpu.guest cpu.vmpl cpu.npt cpu.paging) (Access address op) _ _ before refl
+need_fine guest asid guests archive memory frames old part cpu address op (needs.Table gpn index frame size) before owns =
+    table_fine guest asid guests archive memory frames old part cpu address op _ gpn index frame (table_place (asid_of guests cpu.guest) cpu.vmpl gpn index frame size) before owns refl refl refl
+need_fine guest asid guests archive memory frames old part cpu address op (needs.Data gpn private frame size) before owns =
+    data_fine guest asid guests archive memory old part cpu.guest cpu.vmpl cpu.npt cpu.paging address op gpn private frame size before owns
+need_fine guest asid guests archive memory frames old part cpu address op (needs.Fault outcome) before owns =
+    unbuilt_fine guest asid archive memory old part (Cpu cpu.guest cpu.vmpl cpu.npt cpu.paging) (Access address op) before
+
+cpu_access_fine : (guest asid : ℕ) (guests : List GuestSpec) (archive : Archive) (memory : Memory) (frames : ℕ) (old : Contents) (part : ActorPart) (cpu : Processor) (address : ℕ) (op : Op) (made : List Deed)
+    → Before asid archive memory old → Owns guest asid guests cpu.guest
+    → MoveFine guest asid archive memory old (Cpu cpu.guest cpu.vmpl cpu.npt cpu.paging) (Access address op) (cpu_access frames guests old part cpu address op made)
+unfolding cpu_access
+cpu_access_fine guest asid guests archive memory frames old part cpu address op [] before owns =
+    begin_fine guest asid archive memory old part (Cpu cpu.guest cpu.vmpl cpu.npt cpu.paging) (Access address op) (old.contexts cpu.guest) address before
+cpu_access_fine guest asid guests archive memory frames old part cpu address op (deed ∷ others) before owns =
+    need_fine guest asid guests archive memory frames old part cpu address op _ before owns
 
 -- so each item's move
 pub item_fine : (guest asid : ℕ) (guests : List GuestSpec) (archive : Archive) (memory : Memory) (frames : ℕ) (view : View) (part : ActorPart) (role : Role) (item : Item)
     → Before asid archive memory view.contents → RoleOwns guest asid guests role
     → MoveFine guest asid archive memory view.contents role item (item_move frames guests view part role item)
 unfolding item_move host_access use_of
-item_fine guest asid guests archive memory frames view part (Cpu owner vmpl npt Flat) (Access address op) before owns =
-    flat_access_fine guest asid guests archive memory frames view.contents part owner vmpl npt address op part.deeds before owns
+item_fine guest asid guests archive memory frames view part (Cpu owner vmpl npt paging) (Access address op) before owns =
+    cpu_access_fine guest asid guests archive memory frames view.contents part (record { guest = owner; vmpl = vmpl; npt = npt; paging = paging }) address op part.deeds before owns
 item_fine guest asid guests archive memory frames view part Host (Access address op) before owns =
     host_fine guest asid archive memory view.contents part (Access address op) op (address / 4096) (index_of address) _ before refl
 item_fine guest asid guests archive memory frames view part role (Skip count test) before owns =

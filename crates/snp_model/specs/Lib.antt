@@ -21,6 +21,7 @@ pub mod Locks
 pub mod Measurement
 pub mod NestedReads
 pub mod NestedWalk
+pub mod OpenAttempts
 pub mod Opening
 pub mod Operations
 pub mod Outside
@@ -37,3 +38,4 @@ pub mod State
 pub mod Step
 pub mod Touches
 pub mod Verdicts
+pub mod Walking

@@ -4,7 +4,8 @@ use Rattle.snp_model.specs.declared.event.Deed.{Deed}
 use Rattle.snp_model.specs.declared.item.Line.{Line}
 use Rattle.snp_model.specs.Attempts.{script_attempts}
 use Rattle.snp_model.specs.State.{ActorPart, State}
-use Rattle.snp_model.specs.Step.{line_at, nested_words}
+use Rattle.snp_model.specs.Step.{line_at}
+use Rattle.snp_model.specs.Walking.{guest_words, nested_words}
 
 -- of the lines from the one under way on, whose attempt has made some events
 unfoldable pub lines_room : List Line → ℕ → ℕ → ℕ
@@ -24,9 +25,10 @@ parts_room (part ∷ parts) = part_room part + parts_room parts
 unfoldable pub room_of : State → ℕ
 room_of m = parts_room m.actors
 
--- the deeds of an open attempt: it begins, and reads the words of a nested table of each level once
+-- the deeds of an open attempt: it begins, reads four words of nested tables and one of a guest table for each level of its guest walk, and then four of nested tables
 pub record IsShort (deeds : List Deed) : Type 0 where
-  pub walked : length deeds ≤ 1 + length (nested_words deeds)
+  pub walked : length deeds ≤ 1 + 5 * length (guest_words deeds) + length (nested_words deeds)
+  pub few_tables : length (guest_words deeds) ≤ 4
   pub few : length (nested_words deeds) ≤ 4
 
 -- an actor's open attempt is short, and it is one of those that its line has

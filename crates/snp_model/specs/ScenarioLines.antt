@@ -13,7 +13,7 @@ use Rattle.snp_model.specs.declared.scenario.Turn.{Turn}
 use Rattle.snp_model.specs.declared.scenario.Actor.{Actor}
 use Rattle.snp_model.specs.declared.scenario.Role.{Role}
 use Rattle.snp_model.specs.declared.scenario.Role.TheVariants.{Cpu, Host}
-use Rattle.snp_model.specs.declared.scenario.Paging.TheVariants.{Flat}
+use Rattle.snp_model.specs.declared.scenario.Paging.TheVariants.{Flat, Four}
 use Rattle.snp_model.specs.declared.item.Line.{Line}
 use Rattle.snp_model.specs.Lines.{◌>>=◌, ◌>>◌, require, word, is_row, is_hex_digit, digit_value, decimal, cut_at, fixed, number, ranged, below}
 
@@ -151,6 +151,21 @@ cpu_row c ws = do
   fixed (word ws 8) (codes "flat")
   require (is_declared c.guests guest) Guest
   Ok (Cpu guest vmpl npt Flat)
+
+-- `actor N cpu G vmpl V npt F gcr3 P`
+unfoldable pub tables_row : Scenario → List (List ℕ) → Result Role Reason
+tables_row c ws = do
+  next_number (length c.actors) (word ws 1)
+  fixed (word ws 2) (codes "cpu")
+  guest ← number (word ws 3)
+  fixed (word ws 4) (codes "vmpl")
+  vmpl ← below 4 (word ws 5)
+  fixed (word ws 6) (codes "npt")
+  npt ← below (frames_of c) (word ws 7)
+  fixed (word ws 8) (codes "gcr3")
+  root ← below (2 ^ 36) (word ws 9)
+  require (is_declared c.guests guest) Guest
+  Ok (Cpu guest vmpl npt (Four root))
 
 -- `actor N host`
 unfoldable pub host_row : Scenario → List (List ℕ) → Result Role Reason

@@ -11,7 +11,7 @@ use Rattle.snp_model.specs.declared.scenario.Actor.{Actor}
 use Rattle.snp_model.specs.declared.scenario.Role.{Role}
 use Rattle.snp_model.specs.declared.scenario.Role.TheVariants.{Cpu, Host, Firmware}
 use Rattle.snp_model.specs.declared.scenario.Paging.{Paging}
-use Rattle.snp_model.specs.declared.scenario.Paging.TheVariants.{Flat}
+use Rattle.snp_model.specs.declared.scenario.Paging.TheVariants.{Flat, Four}
 use Rattle.snp_model.specs.declared.item.Line.{Line}
 use Rattle.snp_model.specs.declared.item.Item.{Item}
 use Rattle.snp_model.specs.declared.item.Item.TheVariants.{Access, Skip}
@@ -54,13 +54,18 @@ pub record IsWord (frames : ℕ) (word : WordSpec) : Type 0 where
   pub frame : word.frame < frames
   pub index : word.index < 512
 
+-- guest tables begin at a guest page number, where there are any
+abbrev pub IsPaging : Paging → Type 0
+IsPaging Flat = Unit {0}
+IsPaging (Four root) = root < 2 ^ 36
+
 -- a guest processor, of one of so many guests
 pub record IsCpu (frames guests guest vmpl npt : ℕ) (paging : Paging) : Type 0 where
   pub guest_some : 0 < guest
   pub guest_most : guest ≤ guests
   pub vmpl_below : vmpl < 4
   pub npt_below : npt < frames
-  pub paging_flat : paging ≡ Flat
+  pub root_below : IsPaging paging
 
 -- a role
 abbrev pub IsRole : ℕ → ℕ → Role → Type 0

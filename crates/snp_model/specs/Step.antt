@@ -1,5 +1,5 @@
 -- One event of one actor: by cases on what its item still needs. The division into events is this project's own.
-use Rattle.std.specs.Prelude.{◌≡◌, ℕ, ◌+◌, ◌-◌, ◌/◌, ◌%◌, nat_le, nat_lt, Bool, true, false, not, ◌||◌, if◌then◌else◌, List, [], ◌∷◌, ◌++◌, slice_index_or, slice_set, Option, Some, None}
+use Rattle.std.specs.Prelude.{◌≡◌, ℕ, ◌+◌, ◌-◌, ◌/◌, ◌%◌, nat_lt, Bool, true, false, not, if◌then◌else◌, List, [], ◌∷◌, ◌++◌, slice_index_or, slice_set, Option, Some, None}
 use Rattle.snp_model.specs.declared.access.Place.{Place}
 use Rattle.snp_model.specs.declared.access.Verdict.{Verdict}
 use Rattle.snp_model.specs.declared.access.Verdict.TheVariants.{Pass, Hidden, Fault}
@@ -14,22 +14,23 @@ use Rattle.snp_model.specs.declared.item.Item.{Item}
 use Rattle.snp_model.specs.declared.item.Item.TheVariants.{Access, Psmash, Skip}
 use Rattle.snp_model.specs.declared.item.Line.{Line}
 use Rattle.snp_model.specs.declared.item.Op.{Op}
+use Rattle.snp_model.specs.declared.item.Op.TheVariants.{Load}
 use Rattle.snp_model.specs.declared.item.SkipTest.{SkipTest}
 use Rattle.snp_model.specs.declared.scenario.GuestSpec.{GuestSpec}
-use Rattle.snp_model.specs.declared.scenario.Paging.TheVariants.{Flat}
 use Rattle.snp_model.specs.declared.scenario.Role.{Role}
 use Rattle.snp_model.specs.declared.scenario.Role.TheVariants.{Cpu, Host}
-use Rattle.snp_model.specs.declared.walk.NestedPath.{NestedPath}
-use Rattle.snp_model.specs.declared.walk.NestedEnd.{NestedEnd}
-use Rattle.snp_model.specs.declared.walk.NestedEnd.TheVariants as ends
+use Rattle.snp_model.specs.declared.walk.Need.{Need}
+use Rattle.snp_model.specs.declared.walk.Need.TheVariants as needs
 use Rattle.snp_model.specs.declared.entry.PageSize.{PageSize}
-use Rattle.snp_model.specs.NestedWalk.{nested_end}
+use Rattle.snp_model.specs.Accesses.{guest_verdict}
+use Rattle.snp_model.specs.GuestWalk.{is_canonical}
 use Rattle.snp_model.specs.Opening.{asid_of}
 use Rattle.snp_model.specs.Operations.{writes, outcome_of, word_after}
 use Rattle.snp_model.specs.Skips.{skip_outcome}
 use Rattle.snp_model.specs.Verdicts.{private_verdict, host_verdict}
 use Rattle.snp_model.specs.State.{Page, Pages, Context, Contents, PageLock, Computed, ActorPart, State, View, part_of, IsUnfinished, with_word, word_of}
 use Rattle.snp_model.specs.Locks.{view_of}
+use Rattle.snp_model.specs.Walking.{Processor, index_of, need_after, fault_of}
 
 -- what one event does: its deed and outcome, memory and contexts after it, and what the open attempt then has
 pub record Move : Type 0 where
@@ -50,7 +51,7 @@ abbrev pub quiet_move : Contents → ActorPart → Deed → Option Outcome → M
 quiet_move contents part deed outcome =
     record { deed = deed; outcome = outcome; contents = contents; locks = part.locks; context_lock = part.context_lock; computed = part.computed }
 
--- an item that no scenario has yet
+-- an item that no scenario has yet, or a walk that has faulted, at which no open attempt stands
 abbrev pub unbuilt_move : Contents → ActorPart → Move
 unbuilt_move contents part = quiet_move contents part deeds.Control (Some outcomes.Next)
 
@@ -70,27 +71,6 @@ access_move contents part deed (Fault outcome) op frame index = quiet_move conte
 abbrev pub table_word : Page → ℕ → ℕ
 table_word page index = if page.facts.assigned then 0 else word_of page index
 
--- the words of nested tables that the open attempt has read
-unfoldable pub nested_words : List Deed → List ℕ
-nested_words [] = []
-nested_words (deeds.Nested frame index value ∷ others) = value ∷ nested_words others
-nested_words (deed ∷ others) = nested_words others
-
--- how an event of a walk ends, by where the walk then stands
-abbrev pub walk_outcome : NestedEnd → Option Outcome
-walk_outcome (ends.Fault code) = Some (outcomes.Npf code)
-walk_outcome stands = None
-
--- a guest processor: its guest, VMPL and first nested table
-pub record Processor : Type 0 where
-  pub guest : ℕ
-  pub vmpl : ℕ
-  pub npt : ℕ
-
--- whether bits 63:47 of an address are all equal (APM volume 2, 5.3.1)
-abbrev pub is_canonical : ℕ → Bool
-is_canonical address = nat_lt address 0x8000_0000_0000 || nat_le 0xffff_8000_0000_0000 address
-
 -- whether a guest runs
 abbrev pub is_running : GuestState → Bool
 is_running Running = true
@@ -103,43 +83,45 @@ begin_move contents part context address =
     else if not (is_canonical address) then quiet_move contents part deeds.Begin (Some outcomes.Gp)
     else quiet_move contents part deeds.Begin None
 
--- the guest page number of an address without guest tables: bits 47:12
-abbrev pub flat_gpn : ℕ → ℕ
-flat_gpn address = address / 4096 % 0x10_0000_0000
+-- where an access goes that has come to a frame
+abbrev pub data_place : ℕ → ℕ → ℕ → ℕ → Bool → ℕ → PageSize → Place
+data_place asid vmpl address gpn private frame size =
+    record { asid = asid; gpn = gpn; slot = frame % 512; index = index_of address; leaf = size; vmpl = vmpl; private = private; table = false }
 
--- the word of a page that an address names: bits 11:3
-abbrev pub index_of : ℕ → ℕ
-index_of address = address / 8 % 512
+-- where a word of a guest table stands
+abbrev pub table_place : ℕ → ℕ → ℕ → ℕ → ℕ → PageSize → Place
+table_place asid vmpl gpn index frame size =
+    record { asid = asid; gpn = gpn; slot = frame % 512; index = index; leaf = size; vmpl = vmpl; private = true; table = true }
 
--- what the nested walk of an access without guest tables begins from
-abbrev pub flat_path : ℕ → Processor → ℕ → Op → NestedPath
-flat_path frames cpu address op =
-    record { root = cpu.npt; frames = frames; gpn = flat_gpn address; write = writes op; private = true; table = false }
+-- a word of a walk is read, with this deed: the attempt ends where the walk then faults
+abbrev pub walk_move : ℕ → Contents → ActorPart → Processor → ℕ → Op → Deed → Move
+walk_move frames contents part cpu address op deed =
+    quiet_move contents part deed (fault_of (need_after frames cpu address op (part.deeds ++ deed ∷ [])))
 
--- where such an access goes, once its walk has come to a leaf
-abbrev pub flat_place : ℕ → Processor → ℕ → ℕ → PageSize → Place
-flat_place asid cpu address frame size =
-    record { asid = asid; gpn = flat_gpn address; slot = frame % 512; index = index_of address; leaf = size; vmpl = cpu.vmpl; private = true; table = false }
+-- a word of a guest table is read with its check, which is that of a private load
+unfoldable pub table_move : ℕ → Contents → ActorPart → Processor → ℕ → Op → Verdict → ℕ → ℕ → ℕ → Move
+table_move frames contents part cpu address op Pass gpn index frame =
+    walk_move frames contents part cpu address op (deeds.Table gpn index frame (Some (word_of (contents.pages frame) index)))
+table_move frames contents part cpu address op Hidden gpn index frame = quiet_move contents part (deeds.Table gpn index frame None) (Some outcomes.Opaque)
+table_move frames contents part cpu address op (Fault outcome) gpn index frame = quiet_move contents part (deeds.Table gpn index frame None) (Some outcome)
 
--- one word of a nested table is read, and the walk goes on, comes to a leaf, or faults
-unfoldable pub nested_move : Contents → ActorPart → NestedPath → ℕ → ℕ → Move
-nested_move contents part path frame index =
-    let value = table_word (contents.pages frame) index in
-    quiet_move contents part (deeds.Nested frame index value) (walk_outcome (nested_end path (nested_words part.deeds ++ value ∷ [])))
+-- what an access does that has begun, by what it needs
+unfoldable pub need_move : ℕ → List GuestSpec → Contents → ActorPart → Processor → ℕ → Op → Need → Move
+need_move frames guests contents part cpu address op (needs.Nested frame index) =
+    walk_move frames contents part cpu address op (deeds.Nested frame index (table_word (contents.pages frame) index))
+need_move frames guests contents part cpu address op (needs.Table gpn index frame size) =
+    let place = table_place (asid_of guests cpu.guest) cpu.vmpl gpn index frame size in
+    table_move frames contents part cpu address op (private_verdict (contents.pages frame).facts place Load) gpn index frame
+need_move frames guests contents part cpu address op (needs.Data gpn private frame size) =
+    let place = data_place (asid_of guests cpu.guest) cpu.vmpl address gpn private frame size in
+    access_move contents part (deeds.Access gpn (index_of address) frame private) (guest_verdict (contents.pages frame).facts place op) op frame (index_of address)
+need_move frames guests contents part cpu address op (needs.Fault outcome) = unbuilt_move contents part
 
--- after the beginning of an access without guest tables: the words of its nested walk, then the access
-unfoldable pub flat_move : ℕ → List GuestSpec → Contents → ActorPart → Processor → ℕ → Op → NestedEnd → Move
-flat_move frames guests contents part cpu address op (ends.Read frame index) = nested_move contents part (flat_path frames cpu address op) frame index
-flat_move frames guests contents part cpu address op (ends.Leaf frame size) =
-    let place = flat_place (asid_of guests cpu.guest) cpu address frame size in
-    access_move contents part (deeds.Access (flat_gpn address) (index_of address) frame true) (private_verdict (contents.pages frame).facts place op) op frame (index_of address)
-flat_move frames guests contents part cpu address op (ends.Fault code) = unbuilt_move contents part
-
--- an access of a guest processor without guest tables
-unfoldable pub flat_access : ℕ → List GuestSpec → Contents → ActorPart → Processor → ℕ → Op → List Deed → Move
-flat_access frames guests contents part cpu address op [] = begin_move contents part (contents.contexts cpu.guest) address
-flat_access frames guests contents part cpu address op (deed ∷ others) =
-    flat_move frames guests contents part cpu address op (nested_end (flat_path frames cpu address op) (nested_words (deed ∷ others)))
+-- an access of a guest processor
+unfoldable pub cpu_access : ℕ → List GuestSpec → Contents → ActorPart → Processor → ℕ → Op → List Deed → Move
+cpu_access frames guests contents part cpu address op [] = begin_move contents part (contents.contexts cpu.guest) address
+cpu_access frames guests contents part cpu address op (deed ∷ others) =
+    need_move frames guests contents part cpu address op (need_after frames cpu address op (deed ∷ others))
 
 -- an access of a hypervisor processor, at a system physical address
 unfoldable pub host_access : Contents → ActorPart → ℕ → Op → Move
@@ -153,8 +135,8 @@ skip_move contents part count test = quiet_move contents part deeds.Control (Som
 
 -- the next event of an item, by the role of its actor
 unfoldable pub item_move : ℕ → List GuestSpec → View → ActorPart → Role → Item → Move
-item_move frames guests view part (Cpu guest vmpl npt Flat) (Access address op) =
-    flat_access frames guests view.contents part (record { guest = guest; vmpl = vmpl; npt = npt }) address op part.deeds
+item_move frames guests view part (Cpu guest vmpl npt paging) (Access address op) =
+    cpu_access frames guests view.contents part (record { guest = guest; vmpl = vmpl; npt = npt; paging = paging }) address op part.deeds
 item_move frames guests view part Host (Access address op) = host_access view.contents part address op
 item_move frames guests view part role (Skip count test) = skip_move view.contents part count test
 item_move frames guests view part role item = unbuilt_move view.contents part

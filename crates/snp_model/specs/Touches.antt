@@ -5,14 +5,13 @@ use Rattle.snp_model.specs.declared.event.Deed.{Deed}
 use Rattle.snp_model.specs.declared.item.Item.{Item}
 use Rattle.snp_model.specs.declared.item.Item.TheVariants.{Access}
 use Rattle.snp_model.specs.declared.item.Op.{Op}
-use Rattle.snp_model.specs.declared.scenario.Paging.TheVariants.{Flat}
 use Rattle.snp_model.specs.declared.scenario.Role.{Role}
 use Rattle.snp_model.specs.declared.scenario.Role.TheVariants.{Cpu, Host}
-use Rattle.snp_model.specs.declared.walk.NestedEnd.{NestedEnd}
-use Rattle.snp_model.specs.declared.walk.NestedEnd.TheVariants as ends
-use Rattle.snp_model.specs.NestedWalk.{nested_end}
+use Rattle.snp_model.specs.declared.walk.Need.{Need}
+use Rattle.snp_model.specs.declared.walk.Need.TheVariants as needs
 use Rattle.snp_model.specs.State.{ActorPart, Contents, View}
-use Rattle.snp_model.specs.Step.{Processor, flat_path, nested_words, line_at}
+use Rattle.snp_model.specs.Step.{Stepped, line_at}
+use Rattle.snp_model.specs.Walking.{Processor, need_after}
 
 -- the region of a frame: regions have 512 frames
 abbrev pub region_of : ℕ → ℕ
@@ -34,20 +33,22 @@ frame_part frame = record { regions = region_of frame ∷ []; context = None }
 abbrev pub context_part : ℕ → Touched
 context_part guest = record { regions = []; context = Some guest }
 
--- a nested walk touches the frame that it reads next, or the one that it has come to
-unfoldable pub walk_touches : NestedEnd → Touched
-walk_touches (ends.Read frame index) = frame_part frame
-walk_touches (ends.Leaf frame size) = frame_part frame
-walk_touches (ends.Fault code) = no_part
+-- an access that has begun touches the frame of the word that it needs
+unfoldable pub need_touches : Need → Touched
+need_touches (needs.Nested frame index) = frame_part frame
+need_touches (needs.Table gpn index frame size) = frame_part frame
+need_touches (needs.Data gpn private frame size) = frame_part frame
+need_touches (needs.Fault outcome) = no_part
 
--- an access of a guest processor without guest tables: its beginning asks whether the guest runs
-unfoldable pub flat_touches : ℕ → Processor → ℕ → Op → List Deed → Touched
-flat_touches frames cpu address op [] = context_part cpu.guest
-flat_touches frames cpu address op (deed ∷ others) = walk_touches (nested_end (flat_path frames cpu address op) (nested_words (deed ∷ others)))
+-- an access of a guest processor: its beginning asks whether the guest runs
+unfoldable pub cpu_touches : ℕ → Processor → ℕ → Op → List Deed → Touched
+cpu_touches frames cpu address op [] = context_part cpu.guest
+cpu_touches frames cpu address op (deed ∷ others) = need_touches (need_after frames cpu address op (deed ∷ others))
 
 -- the next event of an item, by the role of its actor
 unfoldable pub item_touches : ℕ → List Deed → Role → Item → Touched
-item_touches frames made (Cpu guest vmpl npt Flat) (Access address op) = flat_touches frames (record { guest = guest; vmpl = vmpl; npt = npt }) address op made
+item_touches frames made (Cpu guest vmpl npt paging) (Access address op) =
+    cpu_touches frames (record { guest = guest; vmpl = vmpl; npt = npt; paging = paging }) address op made
 item_touches frames made Host (Access address op) = frame_part (address / 4096)
 item_touches frames made role item = no_part
 
@@ -74,3 +75,9 @@ pub record SeeAlike (touched : Touched) (one other : View) : Type 0 where
   pub contents : AgreeOn touched one.contents other.contents
   pub holders : (frame : ℕ) → touches_frame touched frame ≡ true → one.holder frame ≡ other.holder frame
   pub context_holders : (guest : ℕ) → touched.context ≡ Some guest → one.context_holder guest ≡ other.context_holder guest
+
+-- two steps are the same, and leave what is touched the same
+pub record StepsAlike (touched : Touched) (one other : Stepped) : Type 0 where
+  pub event : one.event ≡ other.event
+  pub part : one.part ≡ other.part
+  pub contents : AgreeOn touched one.contents other.contents

@@ -1,3 +1,6 @@
+ghost use Rattle.std.specs.Prelude.{◌≡◌};
+ghost use Rattle.snp_model.specs.Operations.{reads, writes};
+
 use crate::{Command, PageSize};
 
 /// What an access does with one 64-bit word.
@@ -13,6 +16,34 @@ pub enum Op {
     Compare { expected: u64, next: u64 },
     /// Writes the exclusive or of the word and the argument, and gives the old word.
     Xor(u64),
+}
+
+impl Op {
+    /// Whether it reads the word.
+    pub fn reads(&self) -> bool
+        ensures { result ≡ reads self.now }
+    {
+        match self {
+            Op::Load => true,
+            Op::Store(_) => false,
+            Op::Swap(_) => true,
+            Op::Compare { .. } => true,
+            Op::Xor(_) => true,
+        }
+    }
+
+    /// Whether it writes the word. A compare does, whatever it finds.
+    pub fn writes(&self) -> bool
+        ensures { result ≡ writes self.now }
+    {
+        match self {
+            Op::Load => false,
+            Op::Store(_) => true,
+            Op::Swap(_) => true,
+            Op::Compare { .. } => true,
+            Op::Xor(_) => true,
+        }
+    }
 }
 
 /// What a skip asks of its actor's last outcome.

@@ -25,4 +25,4 @@ pub use listed::Listed;
 pub use reading::{Quantity, Reason};
 pub use report::GuestLine;
 pub use scenario::{Actor, GuestSpec, PageSpec, Paging, Role, Scenario, Turn, WordSpec};
-pub use walk::{GuestEnd, GuestPath, NestedEnd, NestedPath};
+pub use walk::{GuestEnd, GuestPath, Need, NestedEnd, NestedPath};

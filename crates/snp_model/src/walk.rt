@@ -1,4 +1,4 @@
-use crate::PageSize;
+use crate::{Outcome, PageSize};
 
 /// What a nested walk begins from.
 #[derive(Clone, Copy, Debug, PartialEq, Eq)]
@@ -57,4 +57,32 @@ pub enum GuestEnd {
     },
     /// A page fault with this error code.
     Fault(u64),
+}
+
+/// What a guest processor's access needs next, once it has begun.
+#[derive(Clone, Copy, Debug, PartialEq, Eq)]
+pub enum Need {
+    /// A word of a nested table: its frame, in memory, and its index below 512.
+    Nested {
+        frame: u32,
+        index: u16,
+    },
+    /// A word of a guest table: the table's guest page number, the word's index below 512, the frame, in memory, that the
+    /// page number leads to, and the size of the nested leaf.
+    Table {
+        gpn: u64,
+        index: u16,
+        frame: u32,
+        size: PageSize,
+    },
+    /// The access itself: its guest page number, whether it is private, the frame, in memory, that the page number leads
+    /// to, and the size of the nested leaf.
+    Data {
+        gpn: u64,
+        private: bool,
+        frame: u32,
+        size: PageSize,
+    },
+    /// Nothing more: its walks have ended in this fault.
+    Fault(Outcome),
 }

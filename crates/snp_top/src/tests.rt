@@ -388,14 +388,116 @@ guest 1 running -
 end 9
 ";
 
+// A guest processor with tables of its own: a private page, a free frame that it shares with the hypervisor, and an
+// address that its tables don't map. Guest pages 1 to 4 are its tables, in frames 9 to 12.
+const TABLES: &[u8] = b"snp 1
+regions 1
+guest 1 opened asid 1 iv 0 key 0000000000000000000000000000000000000000000000000000000000000000
+page 8 of 1 at 0 4k valid 0 0 0
+page 9 of 1 at 1 4k valid 0 0 0
+page 10 of 1 at 2 4k valid 0 0 0
+page 11 of 1 at 3 4k valid 0 0 0
+page 12 of 1 at 4 4k valid 0 0 0
+word 1 0 0x2007
+word 2 0 0x3007
+word 3 0 0x4007
+word 4 0 0x8007
+word 4 1 0x9007
+word 4 2 0xa007
+word 4 3 0xb007
+word 4 4 0xc007
+word 4 5 0xd007
+word 8 2 7
+word 9 0 0x2003
+word 10 0 0x3003
+word 11 0 0x4003
+word 12 0 0x8000000000003
+word 12 1 0x5003
+actor 1 cpu 1 vmpl 0 npt 1 gcr3 1
+load 0x10
+store 0x1010 5
+load 0x8000000000
+actor 2 host
+xor 0xd010 1
+order 1*52 2 1*6
+end
+";
+
+const ITS_WALKS: &[u8] = b"snp-report 1
+0 1 0.0 begin
+1 1 0.0 npt 1:0 0x2007
+2 1 0.0 npt 2:0 0x3007
+3 1 0.0 npt 3:0 0x4007
+4 1 0.0 npt 4:1 0x9007
+5 1 0.0 gpt 0x1:0 9 0x2003
+6 1 0.0 npt 1:0 0x2007
+7 1 0.0 npt 2:0 0x3007
+8 1 0.0 npt 3:0 0x4007
+9 1 0.0 npt 4:2 0xa007
+10 1 0.0 gpt 0x2:0 10 0x3003
+11 1 0.0 npt 1:0 0x2007
+12 1 0.0 npt 2:0 0x3007
+13 1 0.0 npt 3:0 0x4007
+14 1 0.0 npt 4:3 0xb007
+15 1 0.0 gpt 0x3:0 11 0x4003
+16 1 0.0 npt 1:0 0x2007
+17 1 0.0 npt 2:0 0x3007
+18 1 0.0 npt 3:0 0x4007
+19 1 0.0 npt 4:4 0xc007
+20 1 0.0 gpt 0x4:0 12 0x8000000000003
+21 1 0.0 npt 1:0 0x2007
+22 1 0.0 npt 2:0 0x3007
+23 1 0.0 npt 3:0 0x4007
+24 1 0.0 npt 4:0 0x8007
+25 1 0.0 data 0x0:2 8 p load 0x7
+26 1 1.0 begin
+27 1 1.0 npt 1:0 0x2007
+28 1 1.0 npt 2:0 0x3007
+29 1 1.0 npt 3:0 0x4007
+30 1 1.0 npt 4:1 0x9007
+31 1 1.0 gpt 0x1:0 9 0x2003
+32 1 1.0 npt 1:0 0x2007
+33 1 1.0 npt 2:0 0x3007
+34 1 1.0 npt 3:0 0x4007
+35 1 1.0 npt 4:2 0xa007
+36 1 1.0 gpt 0x2:0 10 0x3003
+37 1 1.0 npt 1:0 0x2007
+38 1 1.0 npt 2:0 0x3007
+39 1 1.0 npt 3:0 0x4007
+40 1 1.0 npt 4:3 0xb007
+41 1 1.0 gpt 0x3:0 11 0x4003
+42 1 1.0 npt 1:0 0x2007
+43 1 1.0 npt 2:0 0x3007
+44 1 1.0 npt 3:0 0x4007
+45 1 1.0 npt 4:4 0xc007
+46 1 1.0 gpt 0x4:1 12 0x5003
+47 1 1.0 npt 1:0 0x2007
+48 1 1.0 npt 2:0 0x3007
+49 1 1.0 npt 3:0 0x4007
+50 1 1.0 npt 4:5 0xd007
+51 1 1.0 data 0x5:2 13 s store
+52 2 0.0 host 13:2 swap 0x5
+53 1 2.0 begin
+54 1 2.0 npt 1:0 0x2007
+55 1 2.0 npt 2:0 0x3007
+56 1 2.0 npt 3:0 0x4007
+57 1 2.0 npt 4:1 0x9007
+58 1 2.0 gpt 0x1:1 9 0x0 pf 0x0
+order 1*52 2*1 1*6
+guest 1 running -
+end 59
+";
+
 #[test]
-fn a_replay_of_exchanges_and_skips(rt: HostRuntime) -> Result<(), Fail> {
-    let alloc = rt.alloc();
-    let words = vec![in alloc; String::from_str(alloc, "replay")?]?;
-    let text = Vec::from_slice(alloc, EXCHANGES)?;
-    let mut source = MemorySource::over(text, 4096, Vec::new(alloc));
-    let mut sink = MemorySink::with_room(alloc, 1000, Vec::new(alloc))?;
-    assert_eq!(rt; snp_batch(alloc, &words, &mut source, &mut sink), 0);
-    assert!(rt; sink.bytes() == THEIR_REPORT);
+fn replays(rt: HostRuntime) -> Result<(), Fail> {
+    for (scenario, report) in [(EXCHANGES, THEIR_REPORT), (TABLES, ITS_WALKS)] {
+        let alloc = rt.alloc();
+        let words = vec![in alloc; String::from_str(alloc, "replay")?]?;
+        let text = Vec::from_slice(alloc, scenario)?;
+        let mut source = MemorySource::over(text, 4096, Vec::new(alloc));
+        let mut sink = MemorySink::with_room(alloc, 4096, Vec::new(alloc))?;
+        assert_eq!(rt; snp_batch(alloc, &words, &mut source, &mut sink), 0);
+        assert!(rt; sink.bytes() == report);
+    }
     Ok(())
 }

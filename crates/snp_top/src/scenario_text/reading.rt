@@ -15,7 +15,7 @@ ghost use Rattle.snp_top.specs.Steps.{made_of, Gives};
 
 use crate::scenario_text::draft::{Draft, Made};
 use crate::scenario_text::fault::LineFault;
-use crate::scenario_text::rows::{read_cpu, read_host, read_version};
+use crate::scenario_text::rows::{read_cpu, read_host, read_tables, read_version};
 use crate::script_text::number::is_word;
 use crate::script_text::words::Words;
 use snp_model::{Reason, Scenario};
@@ -79,6 +79,9 @@ fn add_words(draft: Draft, alloc: Global, words: &Words<'_>) -> Result<Made, Lin
         draft.add_word(words)
     } else if stands(words, b"actor", 9, before_orders(scenario)) {
         let role = read_cpu(scenario, words);
+        draft.add_actor(alloc, role)
+    } else if stands(words, b"actor", 10, before_orders(scenario)) {
+        let role = read_tables(scenario, words);
         draft.add_actor(alloc, role)
     } else if stands(words, b"actor", 3, before_orders(scenario)) {
         let role = read_host(scenario, words);

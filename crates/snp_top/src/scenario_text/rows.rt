@@ -20,6 +20,7 @@ ghost use Rattle.snp_model.specs.ScenarioLines.{
   page_row,
   word_row,
   cpu_row,
+  tables_row,
   host_row,
   turn_from,
   turn_of,
@@ -285,6 +286,35 @@ pub fn read_cpu(scenario: &Scenario, words: &Words<'_>) -> Result<Role, Reason>
         vmpl: vmpl as u8,
         npt: npt as u32,
         paging: Paging::Flat,
+    })
+}
+
+/// `actor N cpu G vmpl V npt F gcr3 P`
+#[tactic(auto, unfolding(snp_model::specs::ScenarioLines::tables_row))]
+pub fn read_tables(scenario: &Scenario, words: &Words<'_>) -> Result<Role, Reason>
+    requires count { length words.now ≡ 10 }
+    requires regions { scenario.now.regions ≤ 16 }
+    requires few { length scenario.now.guests ≤ 8 }
+    requires actors { length scenario.now.actors ≤ 32 }
+    ensures { result ≡ tables_row scenario.now words.now }
+{
+    read_next(scenario.actors.len(), words.at(1))?;
+    read_fixed(words.at(2), b"cpu")?;
+    let guest = read_number(words.at(3))?;
+    read_fixed(words.at(4), b"vmpl")?;
+    let vmpl = read_below(4, words.at(5))?;
+    read_fixed(words.at(6), b"npt")?;
+    let npt = read_below(u64::from(512 * scenario.regions), words.at(7))?;
+    read_fixed(words.at(8), b"gcr3")?;
+    let root = read_below(1 << 36, words.at(9))?;
+    if !is_declared(scenario.guests.as_slice(), guest) {
+        return Err(Reason::Guest);
+    }
+    Ok(Role::Cpu {
+        guest: guest as u8,
+        vmpl: vmpl as u8,
+        npt: npt as u32,
+        paging: Paging::Four(root),
     })
 }
 

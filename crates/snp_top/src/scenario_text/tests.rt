@@ -8,7 +8,7 @@ use std::alloc::Global;
 use std::test::Fail;
 
 // Texts that are refused, with the line and the reason that the rules of the format give.
-const REFUSED: [(&str, u32, Reason); 40] = [
+const REFUSED: [(&str, u32, Reason); 52] = [
     ("", 1, Reason::End),
     ("snp 1\nregions 1\n", 3, Reason::End),
     ("snp 1\nregions 1\nend", 3, Reason::Cut),
@@ -78,6 +78,66 @@ const REFUSED: [(&str, u32, Reason); 40] = [
         "snp 1\nregions 1\nactor 1 cpu 0 vmpl 0 npt 0 flat\n",
         3,
         Reason::Guest,
+    ),
+    (
+        "snp 1\nregions 1\nguest 1 opened asid 5 iv 0 key 00000000000000000000000000000000000000000000000000000000000000ff\nactor 1 cpu 1 vmpl 0 npt 0 gcr3 0x\n",
+        4,
+        Reason::Number,
+    ),
+    (
+        "snp 1\nregions 1\nguest 1 opened asid 5 iv 0 key 00000000000000000000000000000000000000000000000000000000000000ff\nactor 1 cpu 1 vmpl 0 npt 0 gcr3 0x1000000000\n",
+        4,
+        Reason::Range,
+    ),
+    (
+        "snp 1\nregions 1\nguest 1 opened asid 5 iv 0 key 00000000000000000000000000000000000000000000000000000000000000ff\nactor 1 cpu 1 vmpl 0 npt 0 la57 1\n",
+        4,
+        Reason::Form,
+    ),
+    (
+        "snp 1\nregions 1\nguest 1 opened asid 5 iv 0 key 00000000000000000000000000000000000000000000000000000000000000ff\nactor 1 cpu 1 vmpl 0 npt 0 flat 1\n",
+        4,
+        Reason::Form,
+    ),
+    (
+        "snp 1\nregions 1\nguest 1 opened asid 5 iv 0 key 00000000000000000000000000000000000000000000000000000000000000ff\nactor 1 cpu 1 vmpl 0 npt 0 gcr3\n",
+        4,
+        Reason::Form,
+    ),
+    (
+        "snp 1\nregions 1\nguest 1 opened asid 5 iv 0 key 00000000000000000000000000000000000000000000000000000000000000ff\nactor 1 cpu 1 vmpl 0 npt 0 gcr3 1 2\n",
+        4,
+        Reason::Form,
+    ),
+    (
+        "snp 1\nregions 1\nguest 1 opened asid 5 iv 0 key 00000000000000000000000000000000000000000000000000000000000000ff\nactor 1 cpu 1 vmpl 0 npt 512 gcr3 one\n",
+        4,
+        Reason::Range,
+    ),
+    (
+        "snp 1\nregions 1\nguest 1 opened asid 5 iv 0 key 00000000000000000000000000000000000000000000000000000000000000ff\nactor 1 cpu 1 vmpl 4 npt 0 gcr3 1\n",
+        4,
+        Reason::Range,
+    ),
+    (
+        "snp 1\nregions 1\nguest 1 opened asid 5 iv 0 key 00000000000000000000000000000000000000000000000000000000000000ff\nactor 1 cpu one vmpl 0 npt 0 gcr3 1\n",
+        4,
+        Reason::Number,
+    ),
+    (
+        "snp 1\nregions 1\nguest 1 opened asid 5 iv 0 key 00000000000000000000000000000000000000000000000000000000000000ff\nactor 2 cpu 1 vmpl 0 npt 0 gcr3 1\n",
+        4,
+        Reason::Range,
+    ),
+    (
+        "snp 1\nregions 1\nguest 1 opened asid 5 iv 0 key 00000000000000000000000000000000000000000000000000000000000000ff\nactor 1 cpu 2 vmpl 0 npt 0 gcr3 0xfffffffff\n",
+        4,
+        Reason::Guest,
+    ),
+    (
+        "snp 1\nregions 1\nguest 1 opened asid 5 iv 0 key 00000000000000000000000000000000000000000000000000000000000000ff\nactor 1 cpu 2 vmpl 0 npt 0 gcr3 0x1000000000\n",
+        4,
+        Reason::Range,
     ),
     ("snp 1\nregions 1\nstore 0 1\n", 3, Reason::Form),
     (
@@ -155,7 +215,7 @@ fn is_limited(alloc: Global, text: &str, of: Quantity, most: u64) -> bool {
 
 // A text with a line of each form.
 const WHOLE: &str =
-    "snp 1\nregions 1\nguest 1 opened asid 5 iv 0 key 00000000000000000000000000000000000000000000000000000000000000ff\npage 0x3 of 1 at 7 4k invalid 1 2 0xf\nword 3 511 0xffffffffffffffff\n# actors\nactor 1 cpu 1 vmpl 3 npt 9 flat\nload 8\nstore 0xfffffffffffffff8 2\nswap 0x10 5\ncas 0x10 5 6\nxor 0x10 3\nskip 1 if ok\nactor 2 host\nstore 0x1ffff8 0\nload 0x1ffff8\nskip 2 if bad\nskip 8192 if value 7\norder 1*2 2\n\norder 7\nend\n";
+    "snp 1\nregions 1\nguest 1 opened asid 5 iv 0 key 00000000000000000000000000000000000000000000000000000000000000ff\npage 0x3 of 1 at 7 4k invalid 1 2 0xf\nword 3 511 0xffffffffffffffff\n# actors\nactor 1 cpu 1 vmpl 3 npt 9 flat\nload 8\nstore 0xfffffffffffffff8 2\nswap 0x10 5\ncas 0x10 5 6\nxor 0x10 3\nskip 1 if ok\nactor 2 host\nstore 0x1ffff8 0\nload 0x1ffff8\nskip 2 if bad\nskip 8192 if value 7\nactor 3 cpu 1 vmpl 1 npt 0x1ff gcr3 0xfffffffff\nload 0\norder 1*2 2\n\norder 7\nend\n";
 
 fn access(address: u64, op: Op) -> Item {
     Item::Access { address, op }
@@ -178,6 +238,14 @@ const CPU: Role = Role::Cpu {
     vmpl: 3,
     npt: 9,
     paging: Paging::Flat,
+};
+
+// A processor whose guest tables begin at the last guest page, in the last frame of a region.
+const WITH_TABLES: Role = Role::Cpu {
+    guest: 1,
+    vmpl: 1,
+    npt: 511,
+    paging: Paging::Four(0xf_ffff_ffff),
 };
 
 // Lines of items that are refused in a memory of one region, whose last address is 0x1fffff.
@@ -370,11 +438,13 @@ fn are_actors(scenario: &Scenario) -> bool {
         once(skip(8192, SkipTest::Value(7))),
     ];
     match scenario.actors.as_slice() {
-        [first, second] => {
+        [first, second, third] => {
             first.role == CPU
                 && first.script.as_slice() == cpu_items.as_slice()
                 && second.role == Role::Host
                 && second.script.as_slice() == host_items.as_slice()
+                && third.role == WITH_TABLES
+                && third.script.as_slice() == [once(access(0, Op::Load))].as_slice()
         }
         _ => false,
     }

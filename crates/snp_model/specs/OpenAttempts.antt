@@ -1,0 +1,53 @@
+-- What an open attempt has done: the reads of a guest processor's access are those that its walks call for, one after the other (APM volume 2, 5.3 and 15.25.6). The division into events is this project's own.
+use Rattle.std.specs.Prelude.{◌≡◌, ℕ, true, List, [], ◌∷◌, ◌++◌, All, Some}
+use Rattle.snp_model.specs.declared.entry.PageSize.{PageSize}
+use Rattle.snp_model.specs.declared.event.Deed.{Deed}
+use Rattle.snp_model.specs.declared.event.Deed.TheVariants as deeds
+use Rattle.snp_model.specs.declared.item.Item.{Item}
+use Rattle.snp_model.specs.declared.item.Item.TheVariants.{Access}
+use Rattle.snp_model.specs.declared.item.Op.{Op}
+use Rattle.snp_model.specs.declared.scenario.Role.{Role}
+use Rattle.snp_model.specs.declared.scenario.Role.TheVariants.{Cpu}
+use Rattle.snp_model.specs.declared.walk.Need.TheVariants as needs
+use Rattle.snp_model.specs.GuestWalk.{is_canonical}
+use Rattle.snp_model.specs.State.{ActorPart, Contents, State, word_of}
+use Rattle.snp_model.specs.Step.{line_at, table_word}
+use Rattle.snp_model.specs.Walking.{Processor, need_after}
+
+-- after some deeds an access calls for this one: a read of the word that it then needs
+abbrev pub CallsFor : ℕ → Processor → ℕ → Op → List Deed → Deed → Type 0
+CallsFor frames cpu address op made (deeds.Nested frame index value) = need_after frames cpu address op made ≡ needs.Nested frame index
+CallsFor frames cpu address op made (deeds.Table gpn index frame (Some value)) =
+    (size : PageSize) × (need_after frames cpu address op made ≡ needs.Table gpn index frame size)
+CallsFor frames cpu address op made deed = ⊥
+
+-- so for each of the deeds that follow
+unfoldable pub AreCalledFor : ℕ → Processor → ℕ → Op → List Deed → List Deed → Type 0
+AreCalledFor frames cpu address op made [] = Unit {0}
+AreCalledFor frames cpu address op made (deed ∷ others) =
+    CallsFor frames cpu address op made deed × AreCalledFor frames cpu address op (made ++ deed ∷ []) others
+
+-- an access has begun, at a canonical address, and has read the words of its walks
+unfoldable pub IsAccess : ℕ → Processor → ℕ → Op → List Deed → Type 0
+IsAccess frames cpu address op [] = Unit {0}
+IsAccess frames cpu address op (deeds.Begin ∷ others) = (is_canonical address ≡ true) × AreCalledFor frames cpu address op (deeds.Begin ∷ []) others
+IsAccess frames cpu address op (deed ∷ others) = ⊥
+
+-- an attempt of an item, by the role of its actor; any but a guest processor's access ends with its first event
+unfoldable pub IsAttempt : ℕ → Role → Item → List Deed → Type 0
+IsAttempt frames (Cpu guest vmpl npt paging) (Access address op) made = IsAccess frames (record { guest = guest; vmpl = vmpl; npt = npt; paging = paging }) address op made
+IsAttempt frames role item made = made ≡ []
+
+-- the open attempt of an actor
+abbrev pub IsWalking : ℕ → ActorPart → Type 0
+IsWalking frames part = IsAttempt frames part.role (line_at part.script part.item).item part.deeds
+
+-- so of each actor
+abbrev pub AreWalking : State → Type 0
+AreWalking m = All (IsWalking m.frames) m.actors
+
+-- what an event reads of a table is the memory's word at that event; the nested walker sees 0 in an assigned frame
+abbrev pub ReadsMemory : Contents → Deed → Type 0
+ReadsMemory contents (deeds.Nested frame index value) = value ≡ table_word (contents.pages frame) index
+ReadsMemory contents (deeds.Table gpn index frame (Some value)) = value ≡ word_of (contents.pages frame) index
+ReadsMemory contents deed = Unit {0}
