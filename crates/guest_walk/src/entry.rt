@@ -39,8 +39,8 @@ pub(crate) fn after_word(path: &GuestPath, level: usize, word: u64) -> GuestEnd
     }
 }
 
-// Whether bits 63:47 of an address are all equal.
-pub(crate) fn is_canonical(address: u64) -> bool
+/// Whether an address is canonical: its bits 63:47 are all equal (APM volume 2, 5.3.1).
+pub fn is_canonical(address: u64) -> bool
     ensures { result ≡ model.is_canonical address }
 {
     let top = address / 0x8000_0000_0000;

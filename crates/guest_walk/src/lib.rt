@@ -5,6 +5,7 @@ mod entry;
 mod law;
 mod walk;
 
+pub use entry::is_canonical;
 pub use law::guest_walk_laws;
 pub use walk::{GuestWalk, GuestWalked, GuestWord, NotCanonical};
 

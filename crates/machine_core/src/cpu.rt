@@ -3,7 +3,6 @@ ghost use Rattle.snp_model.specs.declared.event.Deed.TheVariants.{Access, Nested
 ghost use Rattle.snp_model.specs.declared.item.Op.TheVariants.{Load};
 ghost use Rattle.snp_model.specs.declared.scenario.GuestSpec.{GuestSpec};
 ghost use Rattle.snp_model.specs.Accesses.{IsPlace, guest_verdict};
-ghost use Rattle.snp_model.specs.GuestWalk.{is_canonical};
 ghost use Rattle.snp_model.specs.OpenAttempts.{IsAccess};
 ghost use Rattle.snp_model.specs.Opening.{asid_of, opening_contexts};
 ghost use Rattle.snp_model.specs.Sound.{IsPaging};
@@ -21,6 +20,7 @@ use crate::changes::{guest_access, guest_table_word, table_word};
 use crate::parts::Parts;
 use crate::shown::Shown;
 use crate::walking::{fault_by_nested, fault_by_table, guest_stands, walk_need};
+use guest_walk::is_canonical;
 use snp_model::{Deed, GuestEnd, GuestSpec, Need, Op, Outcome, PageSize, Paging, Place};
 
 /// A guest's processor: its guest, from 1, its VMPL, the frame of its first nested table, and its guest tables.
@@ -38,14 +38,6 @@ pub struct GuestAccess {
     pub cpu: Processor,
     pub address: u64,
     pub op: Op,
-}
-
-// Whether bits 63:47 of an address are all equal.
-fn is_canonical(address: u64) -> bool
-    ensures { result ≡ is_canonical address }
-{
-    let top = address / 0x8000_0000_0000;
-    top == 0 || top == 0x1_ffff
 }
 
 // Whether a guest runs.

@@ -1,15 +1,21 @@
-ghost use Rattle.std.specs.Prelude.{ℕ, List};
+ghost use Rattle.std.specs.Prelude.{ℕ, ◌*◌, ◌<◌, ◌≤◌, List, length};
 ghost use Rattle.snp_model.specs.declared.scenario.GuestSpec.{GuestSpec};
 ghost use Rattle.snp_model.specs.declared.scenario.Scenario.{Scenario};
+ghost use Rattle.snp_model.specs.Attempts.{attempts_of};
+ghost use Rattle.snp_model.specs.GuestMemory.{memory_after};
+ghost use Rattle.snp_model.specs.Holders.{Archive, Core};
 ghost use Rattle.snp_model.specs.OpenAttempts.{AreWalking, ReadsMemory};
+ghost use Rattle.snp_model.specs.Opening.{asid_of};
+ghost use Rattle.snp_model.specs.Reading.{Valid};
+ghost use Rattle.snp_model.specs.Room.{AreBounded};
 ghost use Rattle.snp_model.specs.Run.{IsDefined, state_after};
 ghost use Rattle.snp_model.specs.State.{ActorPart, State, View};
 ghost use Rattle.snp_model.specs.Step.{event_of, step_of};
 ghost use Rattle.snp_model.specs.Touches.{AgreeBeside, SeeAlike, StepsAlike, touches};
 
-/// The laws of the machine's step. It does nothing.
-#[tactic(auto, using(snp_model::proofs::LocalityLaws::step_alone, snp_model::proofs::OpenAttemptsLaws::event_reads, snp_model::proofs::OpenAttemptsLaws::run_walking))]
-pub fn step_laws()
+/// The laws of the machine's step and of its runs. It does nothing.
+#[tactic(auto, using(snp_model::proofs::LocalityLaws::step_alone, snp_model::proofs::OpenAttemptsLaws::event_reads, snp_model::proofs::OpenAttemptsLaws::run_walking, snp_model::proofs::RoomLaws::run_length))]
+pub fn machine_laws()
     // A step depends on nothing but the actor's own part and what it touches.
     ensures local { (frames : ℕ) (guests : List GuestSpec) (part : ActorPart) (one other : View)
         → SeeAlike (touches frames part) one other
@@ -25,4 +31,17 @@ pub fn step_laws()
     // In every run the reads of an open attempt are those that its walks call for.
     ensures walking { (scenario : Scenario) (schedule : List ℕ)
         → IsDefined scenario schedule → AreWalking (state_after scenario schedule) }
+
+    // An open attempt is short, and a run has at most 32 events for each attempt.
+    ensures short { (scenario : Scenario) (schedule : List ℕ)
+        → IsDefined scenario schedule → AreBounded (state_after scenario schedule) }
+    ensures events { (scenario : Scenario) (schedule : List ℕ)
+        → IsDefined scenario schedule → length schedule ≤ 32 * attempts_of scenario }
+
+    // In every run each page of a declared guest has at most one holder, which has a page of the guest's memory with its
+    // known words.
+    ensures holders { (scenario : Scenario) (schedule : List ℕ) (archive : Archive) (guest : ℕ)
+        → Valid scenario → 0 < guest → guest ≤ length scenario.guests
+        → Core (state_after scenario schedule).contents.pages archive (asid_of scenario.guests guest)
+        (memory_after scenario schedule guest) }
 {}

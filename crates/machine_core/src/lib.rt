@@ -17,6 +17,6 @@ mod walking;
 mod words;
 
 pub use bay::Bay;
-pub use law::step_laws;
+pub use law::machine_laws;
 pub use machine::Machine;
 pub use parts::{OwnParts, Parts};
