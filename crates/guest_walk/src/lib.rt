@@ -3,10 +3,12 @@
 
 mod entry;
 mod law;
+mod stand;
 mod walk;
 
 pub use entry::is_canonical;
 pub use law::guest_walk_laws;
+pub use stand::{guest_end, guest_end_with};
 pub use walk::{GuestWalk, GuestWalked, GuestWord, NotCanonical};
 
 #[cfg(test)]

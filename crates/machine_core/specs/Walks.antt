@@ -40,6 +40,13 @@ IsNeedInside frames (needs.Table gpn index frame size) = (gpn < 2 ^ 36) × (inde
 IsNeedInside frames (needs.Data gpn private frame size) = (gpn < 2 ^ 36) × (frame < frames)
 IsNeedInside frames (needs.Fault outcome) = Unit {0}
 
+-- a word of a nested table is needed
+abbrev pub IsReading : Need → Type 0
+IsReading (needs.Nested frame index) = Unit {0}
+IsReading (needs.Table gpn index frame size) = ⊥
+IsReading (needs.Data gpn private frame size) = ⊥
+IsReading (needs.Fault outcome) = ⊥
+
 -- the fault that a fed walk has come to, if it has
 abbrev pub nested_fault : Walked → Option Outcome
 nested_fault (nested.More walk) = None

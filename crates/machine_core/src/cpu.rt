@@ -10,10 +10,10 @@ ghost use Rattle.snp_model.specs.State.{ActorPart, Contents, word_of};
 ghost use Rattle.snp_model.specs.Step.{is_running, data_place, table_place, table_word, access_move, begin_move, cpu_access};
 ghost use Rattle.snp_model.specs.Touches.{cpu_touches};
 ghost use Rattle.snp_model.specs.Verdicts.{private_verdict};
-ghost use Rattle.snp_model.specs.Walking.{index_of, guest_words, guest_stands, need_after, fault_of};
+ghost use Rattle.snp_model.specs.Walking.{index_of, guest_words, nested_words, guest_stands, walk_need, need_after, fault_of};
 ghost use Rattle.machine_core.specs.Bays.{HasTouched, contents_of, pages_of};
 ghost use Rattle.machine_core.specs.Moves.{move_by, processor_of, table_load, table_shown};
-ghost use Rattle.machine_core.specs.Walks.{IsWalkable, IsGuestInside};
+ghost use Rattle.machine_core.specs.Walks.{IsWalkable, IsGuestInside, IsReading};
 
 use crate::actor::ActorState;
 use crate::changes::{guest_access, guest_table_word, table_word};
@@ -104,6 +104,7 @@ fn read_nested<P: Parts>(
     requires npt { access.now.cpu.npt < frames }
     requires inside { IsGuestInside stands }
     requires stands { stands ≡ guest_stands access.now.cpu.paging access.now.address access.now.op (guest_words part.now.deeds) }
+    requires reads { IsReading (walk_need frames access.now.cpu.npt access.now.op stands (nested_words part.now.deeds)) }
     requires has { IsSome (P.bays parts.now (frame / 512)) }
     requires index { index < 512 }
     ensures { let deed = Nested frame index (table_word (pages_of (P.bays parts.now) frame) index) in

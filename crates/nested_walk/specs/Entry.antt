@@ -8,3 +8,15 @@ abbrev pub EndIsInside : ℕ → NestedEnd → Type 0
 EndIsInside frames (Read frame index) = frame < frames
 EndIsInside frames (Leaf frame size) = frame < frames
 EndIsInside frames (Fault code) = ⊤
+
+-- the frame and the index that the walk goes to are in range
+abbrev pub EndIsWithin : ℕ → NestedEnd → Type 0
+EndIsWithin frames (Read frame index) = (frame < frames) × (index < 512)
+EndIsWithin frames (Leaf frame size) = frame < frames
+EndIsWithin frames (Fault code) = ⊤
+
+-- the walk reads a word
+abbrev pub IsRead : NestedEnd → Type 0
+IsRead (Read frame index) = ⊤
+IsRead (Leaf frame size) = ⊥
+IsRead (Fault code) = ⊥

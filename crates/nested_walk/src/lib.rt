@@ -3,9 +3,11 @@
 
 mod entry;
 mod law;
+mod stand;
 mod walk;
 
 pub use law::nested_walk_laws;
+pub use stand::{nested_end, nested_end_after, nested_end_with};
 pub use walk::{NestedWalk, Walked, WordAddress};
 
 #[cfg(test)]

@@ -9,6 +9,9 @@ use Rattle.snp_top.specs.declared.scenario_text.fault.LineFault.{LineFault}
 use Rattle.snp_top.specs.declared.scenario_text.fault.LineFault.TheVariants.{Refused, Limit, Memory}
 use Rattle.snp_top.specs.declared.scenario_text.fault.ScenarioFault.{ScenarioFault}
 use Rattle.snp_top.specs.declared.scenario_text.fault.ScenarioFault.TheVariants as faults
+use Rattle.snp_top.specs.declared.scenario_text.draft.Draft.{Draft}
+use Rattle.snp_top.specs.declared.scenario_text.draft.Next.{Next}
+use Rattle.snp_top.specs.declared.scenario_text.draft.Next.TheVariants.{Goes, Ends}
 use Rattle.snp_top.specs.declared.scenario_text.draft.Made.{Made}
 use Rattle.snp_top.specs.declared.scenario_text.draft.Made.TheVariants.{Nothing, Reading, Closed}
 
@@ -28,6 +31,33 @@ Fails Memory answer = Unit {0}
 abbrev pub Gives : Result Made LineFault → Result says.Made Fault → Type 0
 Gives (Ok made) answer = answer ≡ Ok (made_of made)
 Gives (Err fault) answer = Fails fault answer
+
+-- the same of a step that changes a scenario
+abbrev pub Grows : Result (Unit {0}) LineFault → Scenario → Result says.Made Fault → Type 0
+Grows (Ok done) scenario answer = answer ≡ Ok (reading scenario)
+Grows (Err fault) scenario answer = Fails fault answer
+
+-- of one that gives the draft back
+abbrev pub GivesDraft : Result Draft LineFault → Result says.Made Fault → Type 0
+GivesDraft (Ok draft) answer = answer ≡ Ok (reading draft.scenario)
+GivesDraft (Err fault) answer = Fails fault answer
+
+-- of one that may end its text
+abbrev pub Continues : Result Next LineFault → Scenario → Result says.Made Fault → Type 0
+Continues (Ok Goes) scenario answer = answer ≡ Ok (reading scenario)
+Continues (Ok Ends) scenario answer = answer ≡ Ok (closed scenario)
+Continues (Err fault) scenario answer = Fails fault answer
+
+-- and of one that changes what is made so far
+abbrev pub Changes : Result (Unit {0}) LineFault → Made → Result says.Made Fault → Type 0
+Changes (Ok done) made answer = answer ≡ Ok (made_of made)
+Changes (Err fault) made answer = Fails fault answer
+
+-- a scenario that was being read is closed
+abbrev pub IsClosed : Made → Made → Type 0
+IsClosed (Reading draft) new = made_of new ≡ closed draft.scenario
+IsClosed Nothing new = Unit {0}
+IsClosed (Closed scenario) new = Unit {0}
 
 -- the same of the turns of a line
 abbrev pub FailsRow : {A : Type 0} → LineFault → Result A Reason → Type 0

@@ -10,5 +10,6 @@ pub mod run_journal;
 pub mod scenario_text;
 pub mod schedule;
 pub mod script_text;
+mod short;
 #[cfg(test)]
 mod tests;

@@ -22,6 +22,7 @@ pub fn write_line(k: u32, actor: u32, event: &Event, out: &mut [u8; 256]) -> usi
 }
 
 // Writes a space and the outcome, where there is one.
+#[inline(always)]
 #[tactic(auto, unfolding(snp_model::specs::EventText::ending_text))]
 fn put_ending(out: &mut [u8], at: usize, outcome: &Option<Outcome>) -> usize
     requires { at + 84 ≤ length out.old }
@@ -38,6 +39,7 @@ fn put_ending(out: &mut [u8], at: usize, outcome: &Option<Outcome>) -> usize
 }
 
 // Writes what an event does.
+#[inline(always)]
 #[tactic(auto, unfolding(snp_model::specs::EventText::deed_text))]
 fn put_deed(out: &mut [u8], at: usize, deed: &Deed) -> usize
     requires { at + 83 ≤ length out.old }
@@ -73,6 +75,7 @@ fn put_deed(out: &mut [u8], at: usize, deed: &Deed) -> usize
     }
 }
 
+#[inline(always)]
 #[tactic(auto, unfolding(snp_model::specs::EventText::deed_text))]
 fn put_nested(out: &mut [u8], at: usize, frame: u32, index: u16, value: u64) -> usize
     requires { at + 83 ≤ length out.old }
@@ -85,6 +88,7 @@ fn put_nested(out: &mut [u8], at: usize, frame: u32, index: u16, value: u64) -> 
     put_hex(out, end, value)
 }
 
+#[inline(always)]
 #[tactic(auto, unfolding(snp_model::specs::EventText::deed_text))]
 fn put_table(
     out: &mut [u8],
@@ -107,6 +111,7 @@ fn put_table(
 }
 
 // Writes a word that was read, or a dash.
+#[inline(always)]
 #[tactic(auto, unfolding(snp_model::specs::EventText::read_text))]
 fn put_read(out: &mut [u8], at: usize, value: Option<u64>) -> usize
     requires { at + 18 ≤ length out.old }
@@ -119,6 +124,7 @@ fn put_read(out: &mut [u8], at: usize, value: Option<u64>) -> usize
     }
 }
 
+#[inline(always)]
 #[tactic(auto, unfolding(snp_model::specs::EventText::deed_text, snp_model::specs::EventText::privacy_text))]
 fn put_access(out: &mut [u8], at: usize, gpn: u64, index: u16, frame: u32, private: bool) -> usize
     requires { at + 83 ≤ length out.old }
@@ -136,6 +142,7 @@ fn put_access(out: &mut [u8], at: usize, gpn: u64, index: u16, frame: u32, priva
     }
 }
 
+#[inline(always)]
 #[tactic(auto, unfolding(snp_model::specs::EventText::deed_text))]
 fn put_host(out: &mut [u8], at: usize, frame: u32, index: u16) -> usize
     requires { at + 83 ≤ length out.old }
@@ -146,6 +153,7 @@ fn put_host(out: &mut [u8], at: usize, frame: u32, index: u16) -> usize
     put_named(out, end, b":", u64::from(index))
 }
 
+#[inline(always)]
 #[tactic(auto, unfolding(snp_model::specs::EventText::deed_text, snp_model::specs::EventText::size_text))]
 fn put_commit(out: &mut [u8], at: usize, frame: u32, gpn: u64, size: PageSize) -> usize
     requires { at + 83 ≤ length out.old }
@@ -162,6 +170,7 @@ fn put_commit(out: &mut [u8], at: usize, frame: u32, gpn: u64, size: PageSize) -
 }
 
 // Writes how an attempt ended.
+#[inline(always)]
 #[tactic(auto, unfolding(snp_model::specs::EventText::outcome_text))]
 fn put_outcome(out: &mut [u8], at: usize, outcome: &Outcome) -> usize
     requires { at + 83 ≤ length out.old }
@@ -194,6 +203,7 @@ fn put_outcome(out: &mut [u8], at: usize, outcome: &Outcome) -> usize
 }
 
 // Writes a name and a number in base 16.
+#[inline(always)]
 fn put_code(out: &mut [u8], at: usize, name: &[u8], code: u64) -> usize
     requires { at + length name.now + 18 ≤ length out.old }
     ensures end { result ≤ at + length name.now + 18 }

@@ -1,4 +1,5 @@
-ghost use Rattle.std.specs.Prelude.{◌≡◌, ◌≤◌, length};
+ghost use Rattle.std.specs.Prelude.{◌≡◌, ◌≤◌, length, true};
+ghost use Rattle.snp_top.specs.Behind.{are_behind};
 ghost use Rattle.snp_model.specs.Reading.{turns_count};
 ghost use Rattle.snp_model.specs.Attempts.{actors_attempts};
 
@@ -14,6 +15,11 @@ pub struct Draft {
     pub attempts: u32,
     /// The entries of the schedule.
     pub turns: u32,
+    /// The pages have frames below this.
+    pub past_frame: u64,
+    /// The pages have guest page numbers below this.
+    pub past_gpn: u64,
+    ghost pages_behind: { are_behind past_frame past_gpn scenario.pages ≡ true },
     ghost regions_most: { scenario.regions ≤ 16 },
     ghost guests_most: { length scenario.guests ≤ 8 },
     ghost actors_most: { length scenario.actors ≤ 32 },
@@ -32,4 +38,13 @@ pub enum Made {
     Reading(Draft),
     /// The scenario of a text that ended.
     Closed(Scenario),
+}
+
+/// Whether a text goes on after a line.
+#[derive(Clone, Copy, Debug, PartialEq, Eq)]
+pub enum Next {
+    /// It goes on.
+    Goes,
+    /// It ends with the line.
+    Ends,
 }

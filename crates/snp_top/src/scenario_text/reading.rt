@@ -1,5 +1,6 @@
-ghost use Rattle.std.specs.Prelude.{◌≡◌, ◌==◌, ◌||◌, ◌&&◌, length, slice_index, nat_le, not, bytes_eq};
+ghost use Rattle.std.specs.Prelude.{◌≡◌, ◌==◌, ◌||◌, ◌&&◌, length, slice_index, nat_le, not, bytes_eq, Result};
 ghost use Rattle.snp_model.specs.Lines.{word, is_row};
+ghost use Rattle.snp_model.specs.declared.scenario.Scenario.{Scenario};
 ghost use Rattle.snp_model.specs.ScenarioLines.{
   has_no,
   before_orders,
@@ -11,15 +12,17 @@ ghost use Rattle.snp_model.specs.ScenarioLines.{
   is_order_row,
 };
 ghost use Rattle.snp_model.specs.Reading.{add_words, fit_words, fit_line, fit, is_passed_over, by_rule, nothing, reading, closed};
-ghost use Rattle.snp_top.specs.Steps.{made_of, Gives};
+ghost use Rattle.snp_model.specs.Reading as says;
+ghost use Rattle.snp_top.specs.Steps.{made_of, Gives, Grows, Continues, Changes, IsClosed};
 
-use crate::scenario_text::draft::{Draft, Made};
+use crate::scenario_text::draft::{Draft, Made, Next};
 use crate::scenario_text::fault::LineFault;
 use crate::scenario_text::rows::{read_cpu, read_host, read_tables, read_version};
 use crate::script_text::number::is_word;
 use crate::script_text::words::Words;
 use snp_model::{Reason, Scenario};
 use std::alloc::Global;
+use std::mem;
 
 // Whether nothing stands yet that comes after the orders.
 fn before_orders(scenario: &Scenario) -> bool
@@ -63,35 +66,45 @@ fn order_stands(words: &Words<'_>, here: bool) -> bool
     words.count() >= 2 && is_word(words.at(0), b"order") && here
 }
 
+// A line that was added, after which the text goes on.
+fn goes_on(grown: Result<(), LineFault>) -> Result<Next, LineFault>
+    ensures { (scenario : Scenario) (answer : Result says.Made says.Fault) → Grows grown scenario answer → Continues result scenario answer }
+{
+    match grown {
+        Ok(()) => Ok(Next::Goes),
+        Err(fault) => Err(fault),
+    }
+}
+
 // What the words of a line make of a scenario.
 #[tactic(auto, unfolding(snp_model::specs::Reading::add_words))]
-fn add_words(draft: Draft, alloc: Global, words: &Words<'_>) -> Result<Made, LineFault>
-    ensures { Gives result (add_words draft.scenario words.now) }
+fn add_words(draft: &mut Draft, alloc: Global, words: &Words<'_>) -> Result<Next, LineFault>
+    ensures { Continues result draft.new.scenario (add_words draft.old.scenario words.now) }
 {
     let scenario = &draft.scenario;
     if stands(words, b"regions", 2, scenario.regions == 0) {
-        draft.add_regions(words)
+        goes_on(draft.add_regions(words))
     } else if stands(words, b"guest", 9, before_pages(scenario)) {
-        draft.add_guest(words)
+        goes_on(draft.add_guest(words))
     } else if stands(words, b"page", 11, before_words(scenario)) {
-        draft.add_page(words)
+        goes_on(draft.add_page(words))
     } else if stands(words, b"word", 4, before_actors(scenario)) {
-        draft.add_word(words)
+        goes_on(draft.add_word(words))
     } else if stands(words, b"actor", 9, before_orders(scenario)) {
         let role = read_cpu(scenario, words);
-        draft.add_actor(alloc, role)
+        goes_on(draft.add_actor(alloc, role))
     } else if stands(words, b"actor", 10, before_orders(scenario)) {
         let role = read_tables(scenario, words);
-        draft.add_actor(alloc, role)
+        goes_on(draft.add_actor(alloc, role))
     } else if stands(words, b"actor", 3, before_orders(scenario)) {
         let role = read_host(scenario, words);
-        draft.add_actor(alloc, role)
+        goes_on(draft.add_actor(alloc, role))
     } else if order_stands(words, scenario.regions != 0) {
-        draft.add_order(alloc, words)
+        goes_on(draft.add_order(alloc, words))
     } else if stands(words, b"end", 1, scenario.regions != 0) {
-        Ok(Made::Closed(draft.scenario))
+        Ok(Next::Ends)
     } else {
-        draft.add_item(words)
+        goes_on(draft.add_item(alloc, words))
     }
 }
 
@@ -126,11 +139,11 @@ fn fit_first(alloc: Global, line: &[u8]) -> Result<Made, LineFault>
 
 // What a line makes of a scenario.
 #[tactic(auto, unfolding(snp_model::specs::Reading::fit_line))]
-fn fit_next(draft: Draft, alloc: Global, line: &[u8]) -> Result<Made, LineFault>
-    ensures { Gives result (fit_line (reading draft.scenario) line.now) }
+fn fit_next(draft: &mut Draft, alloc: Global, line: &[u8]) -> Result<Next, LineFault>
+    ensures { Continues result draft.new.scenario (fit_line (reading draft.old.scenario) line.now) }
 {
     if is_passed_over(line) {
-        return Ok(Made::Reading(draft));
+        return Ok(Next::Goes);
     }
     match Words::of_plain(line) {
         Some(words) => add_words(draft, alloc, &words),
@@ -138,14 +151,35 @@ fn fit_next(draft: Draft, alloc: Global, line: &[u8]) -> Result<Made, LineFault>
     }
 }
 
+// Closes a scenario that was being read.
+fn close(made: &mut Made)
+    ensures { IsClosed made.old made.new }
+{
+    match mem::replace(made, Made::Nothing) {
+        Made::Nothing => {}
+        Made::Reading(draft) => *made = Made::Closed(draft.scenario),
+        Made::Closed(scenario) => *made = Made::Closed(scenario),
+    }
+}
+
 /// What a line makes of what is made so far, or why it doesn't fit.
 #[tactic(auto, unfolding(snp_model::specs::Reading::fit))]
-pub fn fit(alloc: Global, made: Made, line: &[u8]) -> Result<Made, LineFault>
-    ensures { Gives result (fit (made_of made) line.now) }
+pub fn fit(alloc: Global, made: &mut Made, line: &[u8]) -> Result<(), LineFault>
+    ensures { Changes result made.new (fit (made_of made.old) line.now) }
 {
     match made {
-        Made::Nothing => fit_first(alloc, line),
-        Made::Reading(draft) => fit_next(draft, alloc, line),
+        Made::Nothing => {
+            *made = fit_first(alloc, line)?;
+            Ok(())
+        }
+        Made::Reading(draft) => match fit_next(draft, alloc, line) {
+            Ok(Next::Goes) => Ok(()),
+            Ok(Next::Ends) => {
+                close(made);
+                Ok(())
+            }
+            Err(fault) => Err(fault),
+        },
         Made::Closed(_) => Err(LineFault::Refused(Reason::After)),
     }
 }

@@ -1,4 +1,5 @@
-ghost use Rattle.std.specs.Prelude.{◌≡◌, ℕ, ◌+◌, ◌≤◌, ◌<◌, ◌^◌, true, IsTrue, length, map, Ok, Err};
+ghost use Rattle.std.specs.Prelude.{◌≡◌, ℕ, ◌+◌, ◌≤◌, ◌<◌, ◌^◌, true, IsTrue, IfOk, length, map, Ok, Err};
+ghost use Rattle.snp_top.specs.Behind.{are_behind};
 ghost use Rattle.std.specs.List.{list_all, list_any, range_with_len};
 ghost use Rattle.snp_model.specs.Lines.{is_hex_digit};
 ghost use Rattle.snp_model.specs.ScenarioLines.{
@@ -200,11 +201,21 @@ fn any_collides(page: &PageSpec, pages: &[PageSpec]) -> bool
     pages.iter().any(|other| collide(page, other))
 }
 
-// A page that collides with none of these.
-#[tactic(auto, unfolding(snp_model::specs::ScenarioLines::apart))]
-fn keep_apart(pages: &[PageSpec], page: PageSpec) -> Result<PageSpec, Reason>
-    ensures { result ≡ apart pages.now page }
+// A page that collides with none of these, which have frames and guest page numbers below those.
+#[tactic(auto, using(crate::proofs::PagesLaws::apart_behind), unfolding(snp_model::specs::ScenarioLines::apart))]
+fn keep_apart(
+    pages: &[PageSpec],
+    past_frame: u64,
+    past_gpn: u64,
+    page: PageSpec,
+) -> Result<PageSpec, Reason>
+    requires { are_behind past_frame past_gpn pages.now ≡ true }
+    ensures apart { result ≡ apart pages.now page }
+    ensures same { IfOk result (λ kept. kept ≡ page) }
 {
+    if past_frame <= u64::from(page.frame) && past_gpn <= page.gpn {
+        return Ok(page);
+    }
     if any_collides(&page, pages) {
         Err(Reason::Repeat)
     } else {
@@ -214,11 +225,18 @@ fn keep_apart(pages: &[PageSpec], page: PageSpec) -> Result<PageSpec, Reason>
 
 /// `page F of G at P S V X Y Z`
 #[tactic(auto, unfolding(snp_model::specs::ScenarioLines::page_row))]
-pub fn read_page(scenario: &Scenario, words: &Words<'_>) -> Result<PageSpec, Reason>
+pub fn read_page(
+    scenario: &Scenario,
+    past_frame: u64,
+    past_gpn: u64,
+    words: &Words<'_>,
+) -> Result<PageSpec, Reason>
+    requires behind { are_behind past_frame past_gpn scenario.now.pages ≡ true }
     requires count { length words.now ≡ 11 }
     requires regions { scenario.now.regions ≤ 16 }
     requires few { length scenario.now.guests ≤ 8 }
-    ensures { result ≡ page_row scenario.now words.now }
+    ensures row { result ≡ page_row scenario.now words.now }
+    ensures gpn { IfOk result (λ page. page.gpn < 2 ^ 36) }
 {
     let frame = read_below(u64::from(512 * scenario.regions), words.at(1))?;
     read_fixed(words.at(2), b"of")?;
@@ -241,7 +259,7 @@ pub fn read_page(scenario: &Scenario, words: &Words<'_>) -> Result<PageSpec, Rea
         valid,
         perms: [first as u8, second as u8, third as u8],
     };
-    keep_apart(scenario.pages.as_slice(), page)
+    keep_apart(scenario.pages.as_slice(), past_frame, past_gpn, page)
 }
 
 /// `word F I V`

@@ -4,15 +4,16 @@ ghost use Rattle.snp_model.specs.ScenarioLines.{idle, with_line, first_scenario,
 ghost use Rattle.snp_model.specs.ItemLines.{item_words};
 ghost use Rattle.snp_model.specs.Reading.{turns_count, by_rule, within, add_regions, add_guest, add_page, add_word, add_actor, add_line, add_item, add_item_of, add_order};
 ghost use Rattle.snp_model.specs.Attempts.{actors_attempts, attempts_of};
-ghost use Rattle.snp_top.specs.Steps.{Gives, GivesTurns};
+ghost use Rattle.snp_top.specs.Steps.{Grows, GivesDraft, GivesTurns};
 
-use crate::scenario_text::draft::{Draft, Made};
+use crate::scenario_text::draft::Draft;
 use crate::scenario_text::fault::LineFault;
 use crate::scenario_text::rows::{read_guest, read_page, read_regions, read_turn, read_word};
 use crate::script_text::item::read_item_words;
 use crate::script_text::words::Words;
 use snp_model::{Actor, Line, Listed, Quantity, Reason, Role, Scenario, Turn};
 use std::alloc::{AllocError, Global};
+use std::mem;
 
 // An actor that has no items yet.
 fn idle(alloc: Global, role: Role) -> Actor
@@ -94,14 +95,16 @@ impl Draft {
             },
             attempts: 0,
             turns: 0,
+            past_frame: 0,
+            past_gpn: 0,
         }
     }
 
     /// `regions N`
     #[tactic(auto, unfolding(snp_model::specs::Reading::add_regions))]
-    pub fn add_regions(mut self, words: &Words<'_>) -> Result<Made, LineFault>
+    pub fn add_regions(&mut self, words: &Words<'_>) -> Result<(), LineFault>
         requires { length words.now ≡ 2 }
-        ensures { Gives result (add_regions self.scenario words.now) }
+        ensures { Grows result self.new.scenario (add_regions self.old.scenario words.now) }
     {
         let regions = read_regions(words)?;
         if regions > 16 {
@@ -111,14 +114,14 @@ impl Draft {
             });
         }
         self.scenario.regions = regions as u32;
-        Ok(Made::Reading(self))
+        Ok(())
     }
 
     /// `guest ..`
     #[tactic(auto, unfolding(snp_model::specs::Reading::add_guest))]
-    pub fn add_guest(mut self, words: &Words<'_>) -> Result<Made, LineFault>
+    pub fn add_guest(&mut self, words: &Words<'_>) -> Result<(), LineFault>
         requires { length words.now ≡ 9 }
-        ensures { Gives result (add_guest self.scenario words.now) }
+        ensures { Grows result self.new.scenario (add_guest self.old.scenario words.now) }
     {
         let guest = read_guest(&self.scenario, words)?;
         let count = self.scenario.guests.len() as u64 + 1;
@@ -129,35 +132,37 @@ impl Draft {
             });
         }
         self.scenario.guests.push(guest)?;
-        Ok(Made::Reading(self))
+        Ok(())
     }
 
     /// `page ..`
-    #[tactic(auto, unfolding(snp_model::specs::Reading::add_page))]
-    pub fn add_page(mut self, words: &Words<'_>) -> Result<Made, LineFault>
+    #[tactic(auto, using(crate::proofs::PagesLaws::behind_more), unfolding(snp_model::specs::Reading::add_page))]
+    pub fn add_page(&mut self, words: &Words<'_>) -> Result<(), LineFault>
         requires { length words.now ≡ 11 }
-        ensures { Gives result (add_page self.scenario words.now) }
+        ensures { Grows result self.new.scenario (add_page self.old.scenario words.now) }
     {
-        let page = read_page(&self.scenario, words)?;
+        let page = read_page(&self.scenario, self.past_frame, self.past_gpn, words)?;
         self.scenario.pages.push(page)?;
-        Ok(Made::Reading(self))
+        self.past_frame = self.past_frame.max(u64::from(page.frame) + 1);
+        self.past_gpn = self.past_gpn.max(page.gpn + 1);
+        Ok(())
     }
 
     /// `word ..`
     #[tactic(auto, unfolding(snp_model::specs::Reading::add_word))]
-    pub fn add_word(mut self, words: &Words<'_>) -> Result<Made, LineFault>
+    pub fn add_word(&mut self, words: &Words<'_>) -> Result<(), LineFault>
         requires { length words.now ≡ 4 }
-        ensures { Gives result (add_word self.scenario words.now) }
+        ensures { Grows result self.new.scenario (add_word self.old.scenario words.now) }
     {
         let word = read_word(&self.scenario, words)?;
         self.scenario.words.push(word)?;
-        Ok(Made::Reading(self))
+        Ok(())
     }
 
-    /// `actor ..`, of which `role` is what its row says.
+    // `actor ..`, of which `role` is what its row says.
     #[tactic(auto, using(snp_model::proofs::AttemptLaws::attempts_idle), unfolding(snp_model::specs::Reading::add_actor))]
-    pub fn add_actor(mut self, alloc: Global, role: Result<Role, Reason>) -> Result<Made, LineFault>
-        ensures { Gives result (add_actor self.scenario role) }
+    fn with_actor(mut self, alloc: Global, role: Result<Role, Reason>) -> Result<Draft, LineFault>
+        ensures { GivesDraft result (add_actor self.scenario role) }
     {
         let role = role?;
         let count = self.scenario.actors.len() as u64 + 1;
@@ -168,13 +173,13 @@ impl Draft {
             });
         }
         self.scenario.actors.push(idle(alloc, role))?;
-        Ok(Made::Reading(self))
+        Ok(self)
     }
 
-    /// An item of the last actor.
+    // An item of the last actor.
     #[tactic(auto, using(snp_model::proofs::AttemptLaws::attempts_line), unfolding(snp_model::specs::Reading::add_item, snp_model::specs::Reading::add_line, snp_model::specs::Attempts::attempts_of))]
-    pub fn add_item(mut self, words: &Words<'_>) -> Result<Made, LineFault>
-        ensures { Gives result (add_item self.scenario words.now) }
+    fn with_item(mut self, words: &Words<'_>) -> Result<Draft, LineFault>
+        ensures { GivesDraft result (add_item self.scenario words.now) }
     {
         if !self.scenario.order.is_empty() {
             return Err(LineFault::Refused(Reason::Form));
@@ -191,16 +196,34 @@ impl Draft {
                 }
                 push_line(&mut self.scenario.actors, line)?;
                 self.attempts = attempts;
-                Ok(Made::Reading(self))
+                Ok(self)
             }
             None => Err(LineFault::Refused(Reason::Form)),
         }
     }
 
+    /// `actor ..`, of which `role` is what its row says.
+    pub fn add_actor(&mut self, alloc: Global, role: Result<Role, Reason>) -> Result<(), LineFault>
+        ensures { Grows result self.new.scenario (add_actor self.old.scenario role) }
+    {
+        let draft = mem::replace(self, Draft::new(alloc));
+        *self = draft.with_actor(alloc, role)?;
+        Ok(())
+    }
+
+    /// An item of the last actor.
+    pub fn add_item(&mut self, alloc: Global, words: &Words<'_>) -> Result<(), LineFault>
+        ensures { Grows result self.new.scenario (add_item self.old.scenario words.now) }
+    {
+        let draft = mem::replace(self, Draft::new(alloc));
+        *self = draft.with_item(words)?;
+        Ok(())
+    }
+
     /// `order R..`
     #[tactic(auto, using(snp_model::proofs::AttemptLaws::turns_append), unfolding(snp_model::specs::Reading::add_order))]
-    pub fn add_order(mut self, alloc: Global, words: &Words<'_>) -> Result<Made, LineFault>
-        ensures { Gives result (add_order self.scenario words.now) }
+    pub fn add_order(&mut self, alloc: Global, words: &Words<'_>) -> Result<(), LineFault>
+        ensures { Grows result self.new.scenario (add_order self.old.scenario words.now) }
     {
         let turns = read_turns(alloc, words)?;
         let count = u64::from(self.turns) + count_turns(turns.as_slice());
@@ -212,6 +235,6 @@ impl Draft {
         }
         self.scenario.order.extend_from_slice(turns.as_slice())?;
         self.turns = count as u32;
-        Ok(Made::Reading(self))
+        Ok(())
     }
 }

@@ -59,10 +59,10 @@ fn read_lines(alloc: Global, text: &[u8]) -> Result<Scenario, ScenarioFault>
     let mut line: u32 = 1;
     let mut rest = text;
     'lines: while let Some((bytes, more)) = cut(rest, b'\n') {
-        made = match fit(alloc, made, bytes) {
-            Ok(next) => next,
+        match fit(alloc, &mut made, bytes) {
+            Ok(()) => {}
             Err(fault) => return Err(at_line(line, fault)),
-        };
+        }
         line += 1;
         rest = more;
     }

@@ -24,6 +24,7 @@ ghost use Rattle.snp_model.specs.Lines.{
 use snp_model::Reason;
 
 /// Whether a word is this one.
+#[inline(always)]
 pub fn is_word(word: &[u8], name: &[u8]) -> bool
     ensures { result ≡ bytes_eq word.now name.now }
 {
@@ -43,6 +44,7 @@ pub fn read_fixed(word: &[u8], name: &[u8]) -> Result<(), Reason>
 }
 
 /// Whether a byte is `0` to `9`.
+#[inline(always)]
 fn is_decimal_digit(byte: u8) -> bool
     ensures { result ≡ is_decimal_digit byte }
 {
@@ -50,6 +52,7 @@ fn is_decimal_digit(byte: u8) -> bool
 }
 
 /// Whether a byte is `0` to `9` or `a` to `f`.
+#[inline(always)]
 pub fn is_hex_digit(byte: u8) -> bool
     ensures { result ≡ is_hex_digit byte }
 {
@@ -57,6 +60,7 @@ pub fn is_hex_digit(byte: u8) -> bool
 }
 
 /// The value of a digit.
+#[inline(always)]
 pub fn digit_value(byte: u8) -> u8
     ensures value { result ≡ digit_value byte }
     ensures small { IsTrue (is_hex_digit byte) → result < 16 }
@@ -68,6 +72,7 @@ pub fn digit_value(byte: u8) -> u8
     }
 }
 
+#[inline(always)]
 fn all_decimal(digits: &[u8]) -> bool
     ensures { result ≡ list_all is_decimal_digit digits.now }
 {
@@ -112,6 +117,7 @@ pub fn number_of(word: &[u8]) -> Option<u64>
 }
 
 // The number that digits spell, where it is below 2^64.
+#[inline(always)]
 fn value_of(base: u64, digits: &[u8]) -> Option<u64>
     requires { 0 < base }
     ensures { result ≡ in_word (value_after base 0 digits.now) }
@@ -127,6 +133,7 @@ fn value_of(base: u64, digits: &[u8]) -> Option<u64>
 }
 
 // The number that one more digit makes.
+#[inline(always)]
 fn add_digit(base: u64, value: u64, digit: u8) -> Option<u64>
     ensures { result ≡ in_word (value * base + digit_value digit) }
 {

@@ -26,6 +26,7 @@ ghost use Rattle.snp_model.specs.Lines.{parts_at, cut_at, words_of, word, most_w
 use crate::script_text::number::is_word;
 use std::marker::Model;
 
+#[inline(always)]
 fn place(bytes: &[u8], separator: u8) -> Option<usize>
     ensures place { result ≡ position (λ b. b == separator) bytes.now }
     ensures within { IfSome result (λ at. at < length bytes.now) }
@@ -34,6 +35,7 @@ fn place(bytes: &[u8], separator: u8) -> Option<usize>
 }
 
 /// The bytes before the first separator, and those behind it.
+#[inline(always)]
 pub fn cut(bytes: &[u8], separator: u8) -> Option<(&[u8], &[u8])>
     ensures parts { MatchOption result (parts_at separator bytes.now ≡ bytes.now ∷ [])
         (λ p. parts_at separator bytes.now ≡ p.0.now ∷ parts_at separator p.1.now) }
@@ -47,12 +49,14 @@ pub fn cut(bytes: &[u8], separator: u8) -> Option<(&[u8], &[u8])>
     }
 }
 
+#[inline(always)]
 fn all_printable(line: &[u8]) -> bool
     ensures { result ≡ list_all is_printable line.now }
 {
     line.iter().all(|byte| is_printable(*byte))
 }
 
+#[inline(always)]
 fn is_printable(byte: u8) -> bool
     ensures { result ≡ is_printable byte }
 {
@@ -79,6 +83,7 @@ impl<'a> Model for Words<'a> {
 
 impl<'a> Words<'a> {
     /// The words of a line, or none where there are more than 17.
+    #[inline(always)]
     pub fn of(line: &'a [u8]) -> Option<Words<'a>>
         ensures words { MatchOption result (most_words < length (words_of line.now)) (λ ws. ws ≡ words_of line.now) }
         ensures few { IfSome result (λ ws. length ws ≤ most_words) }
@@ -102,6 +107,7 @@ impl<'a> Words<'a> {
     }
 
     /// The words of a line, or none where a byte may not stand in a line or there are more than 17 words.
+    #[inline(always)]
     pub fn of_plain(line: &'a [u8]) -> Option<Words<'a>>
         ensures { MatchOption result (is_plain line.now ≡ false) (λ ws. (is_plain line.now ≡ true) × (ws ≡ words_of line.now)) }
     {
@@ -113,6 +119,7 @@ impl<'a> Words<'a> {
     }
 
     /// How many words there are.
+    #[inline(always)]
     pub fn count(&self) -> usize
         ensures count { result ≡ length self.now }
         ensures bounds { (0 < result) × (result ≤ 17) }
@@ -121,6 +128,7 @@ impl<'a> Words<'a> {
     }
 
     /// The word at a place, counted from 0.
+    #[inline(always)]
     pub fn at(&self, k: usize) -> &'a [u8]
         requires { k < length self.now }
         ensures { result.now ≡ word self.now k }
@@ -130,6 +138,7 @@ impl<'a> Words<'a> {
     }
 
     /// Whether the line has this first word and this many words.
+    #[inline(always)]
     pub fn is_row(&self, name: &[u8], count: usize) -> bool
         ensures { result ≡ is_row self.now name.now count }
     {

@@ -5,6 +5,7 @@ use Rattle.snp_model.specs.Walking.{guest_stands, walk_need, need_after}
 use Rattle.machine_core.specs.Bays.{contents_of}
 use Rattle.machine_core.specs.Moves.{processor_of}
 use Rattle.machine_core.proofs.CpuLaws.{access_begun, table_shows}
+use Rattle.machine_core.proofs.WalkingLaws.{is_reading}
 use Rattle.machine_core.proofs.TouchLaws.{access_walkable, data_has, need_has, nested_has, table_has}
 use Rattle.machine_core.proofs.cpu.cpu_access.Goals as goal
 
@@ -60,3 +61,9 @@ returns-in-Table-clause-moves g c =
     ∙ ap (need_move c.args.frames c.args.guests.now contents c.args.part.now (processor_of access.cpu) access.address access.op) c.in-Table.is
     ∙ table_shows c.args.frames c.args.guests.now contents c.args.part.now (processor_of access.cpu) access.address access.op c.in-Table.gpn c.in-Table.index c.in-Table.frame c.in-Table.size
     c.table_place-place.result c.read_table.result c.table_place-place.ensures.place (c.read_table.ensures c.args.frames)
+
+pub read_nested-requires-clause-reads : goal.read_nested-requires-clause-reads
+read_nested-requires-clause-reads g c =
+    let access = c.args.access.now in
+    is_reading c.in-Nested.frame c.in-Nested.index c.walk_need.result _ c.in-Nested.is
+    (c.walk_need.ensures.need ∙ ap (walk_need c.args.frames access.cpu.npt access.op c.guest_stands-stands.result) c.nested_words.ensures)

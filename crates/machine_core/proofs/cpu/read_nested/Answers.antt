@@ -1,7 +1,8 @@
-use Rattle.std.proofs.Common.{◌≡◌, [], ◌∷◌, ◌++◌, sym, ap, ◌∙◌}
+use Rattle.std.proofs.Common.{◌≡◌, [], ◌∷◌, ◌++◌, List, ℕ, sym, ap, subst, ◌∙◌}
 use Rattle.snp_model.specs.declared.event.Deed.TheVariants.{Nested}
 use Rattle.snp_model.specs.Step.{table_word}
 use Rattle.snp_model.specs.Walking.{walk_need, need_after, fault_of}
+use Rattle.machine_core.specs.Walks.{IsReading}
 use Rattle.machine_core.specs.Bays.{pages_of}
 use Rattle.machine_core.specs.Moves.{processor_of}
 use Rattle.machine_core.proofs.CpuLaws.{nested_read_more}
@@ -18,3 +19,9 @@ returns g c =
     ∙ (λ i. fault_of (walk_need c.args.frames access.cpu.npt access.op (c.requires.stands i) (c.nested_words-words.ensures i ++ value i ∷ [])))
     ∙ ap fault_of (sym (nested_read_more c.args.frames (processor_of access.cpu) access.address access.op deeds c.args.frame c.args.index word)) in
     λ i. record { deed = Nested c.args.frame c.args.index (value i); outcome = fault i }
+
+pub fault_by_nested-requires-clause-reads : goal.fault_by_nested-requires-clause-reads
+fault_by_nested-requires-clause-reads g c =
+    let access = c.args.access.now in
+    let P : List ℕ → Type 0 = λ words. IsReading (walk_need c.args.frames access.cpu.npt access.op c.args.stands words) in
+    subst P (sym c.nested_words-words.ensures) c.requires.reads

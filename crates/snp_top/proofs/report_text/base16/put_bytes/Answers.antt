@@ -10,5 +10,5 @@ loop-byte-init c =
 pub loop-byte-preserved : goal.loop-byte-preserved
 loop-byte-preserved c = record {
   place = omega arith;
-  text = c.put-end.ensures.text ∙ bytes_more _ _ c.args.bytes.now c.loop-byte.byte-index _ _ c.loop-byte-test.true c.glyph.ensures c.glyph-in-loop-byte.ensures c.loop-byte.invariant.text;
+  text = c.put_pair-end.ensures.text ∙ bytes_more _ _ c.args.bytes.now c.loop-byte.byte-index c.loop-byte-test.true c.loop-byte.invariant.text;
 }

@@ -19,7 +19,7 @@ pub lines-preserved : goal.lines-preserved
 lines-preserved c =
     let made = made_of c.lines.made in
     let shorter = c.in-Some.ensures.shorter in
-    (omega (arith, shorter, c.lines.invariant.0), sym (step_line c.lines.line made (made_of c.in-Ok.next) c.in-Some.bytes.now c.in-Some.more.now c.in-Ok.ensures) ∙ ap (read_parts c.lines.line made) (sym c.in-Some.ensures.parts) ∙ c.lines.invariant.1)
+    (omega (arith, shorter, c.lines.invariant.0), sym (step_line c.lines.line made (made_of c.fit.new.made) c.in-Some.bytes.now c.in-Some.more.now c.in-Ok.ensures) ∙ ap (read_parts c.lines.line made) (sym c.in-Some.ensures.parts) ∙ c.lines.invariant.1)
 
 pub returns : goal.returns
 returns c =

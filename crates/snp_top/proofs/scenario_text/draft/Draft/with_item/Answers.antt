@@ -1,6 +1,6 @@
 use Rattle.std.proofs.Common.{arith}
 use Rattle.snp_top.proofs.StepLaws.{Grown, line_grows}
-use Rattle.snp_top.proofs.scenario_text.draft.Draft.add_item.Goals as goal
+use Rattle.snp_top.proofs.scenario_text.draft.Draft.with_item.Goals as goal
 
 pub invariant_of-self-clause-attempts_counted : goal.invariant_of-self-clause-attempts_counted
 invariant_of-self-clause-attempts_counted c =

@@ -1,6 +1,6 @@
 use Rattle.std.proofs.Common.{sym, ◌∙◌}
 use Rattle.snp_model.proofs.AttemptLaws.{attempts_idle}
-use Rattle.snp_top.proofs.scenario_text.draft.Draft.add_actor.Goals as goal
+use Rattle.snp_top.proofs.scenario_text.draft.Draft.with_actor.Goals as goal
 
 pub invariant_of-self-clause-attempts_counted : goal.invariant_of-self-clause-attempts_counted
 invariant_of-self-clause-attempts_counted c =
