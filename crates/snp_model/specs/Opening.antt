@@ -49,9 +49,9 @@ words_from words (word ∷ others) = words_from (with_word_spec word words) othe
 
 -- a guest's context at the opening: an opened guest runs, another has no context yet
 unfoldable pub opening_context : Option GuestSpec → Context
-opening_context None = record { state = Absent; bound = false; asid = 0; iv = 0; key = []; digest = replicate 48 0; pages = 0 }
+opening_context None = record { state = Absent; bound = false; asid = 0; iv = 0; key = []; digest = replicate 48 0; pages = 0; root = None }
 opening_context (Some spec) =
-    record { state = if spec.opened then Running else Absent; bound = spec.opened; asid = spec.asid; iv = spec.iv; key = spec.key; digest = replicate 48 0; pages = 0 }
+    record { state = if spec.opened then Running else Absent; bound = spec.opened; asid = spec.asid; iv = spec.iv; key = spec.key; digest = replicate 48 0; pages = 0; root = None }
 
 -- contexts at the opening, by guest from 1
 abbrev pub opening_contexts : List GuestSpec → Contexts

@@ -32,6 +32,7 @@ pub record Context : Type 0 where
   pub key : List ℕ  -- 32 bytes
   pub digest : List ℕ  -- the launch digest, 48 bytes
   pub pages : ℕ  -- how many pages were launched
+  pub root : Option MetaEntry  -- what is kept of a metadata page that was sealed under the context
 
 -- contexts, by guest from 1
 abbrev pub Contexts : Type 0

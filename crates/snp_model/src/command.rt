@@ -58,4 +58,33 @@ pub enum Command {
     Reclaim {
         frame: u64,
     },
+    /// Seals a metadata page whose entries are the guest's, under an entry below 64 of another metadata page (this
+    /// project's own, as are the next three).
+    MdOut {
+        guest: u8,
+        source: u64,
+        target: u64,
+        metadata: u64,
+        entry: u8,
+    },
+    /// Opens a sealed metadata page, whose entry is below 64.
+    MdIn {
+        guest: u8,
+        source: u64,
+        target: u64,
+        metadata: u64,
+        entry: u8,
+    },
+    /// Seals a metadata page whose entries are the guest's, under the root entry of its context.
+    MdRootOut {
+        guest: u8,
+        source: u64,
+        target: u64,
+    },
+    /// Opens the metadata page that is sealed under the root entry.
+    MdRootIn {
+        guest: u8,
+        source: u64,
+        target: u64,
+    },
 }

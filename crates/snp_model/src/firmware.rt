@@ -37,7 +37,7 @@ pub enum GuestState {
 /// project's own.
 #[derive(Clone, Copy, Debug, PartialEq, Eq)]
 pub struct MetaEntry {
-    /// 1 for a guest page.
+    /// 1 for a guest page, 2 for a metadata page.
     pub kind: u8,
     /// The page's VMSA bit.
     pub vmsa: bool,
