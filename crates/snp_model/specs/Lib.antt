@@ -20,6 +20,7 @@ pub mod Journal
 pub mod Lines
 pub mod Locks
 pub mod Measurement
+pub mod Moves
 pub mod NestedReads
 pub mod NestedWalk
 pub mod OpenAttempts
