@@ -9,8 +9,10 @@ pub mod NestedReadsLaws
 pub mod OpenAttemptsLaws
 pub mod OpeningLaws
 pub mod OrderedLaws
+pub mod ReadyLaws
 pub mod RegionLaws
 pub mod RoomLaws
 pub mod RunLaws
+pub mod ShapeLaws
 pub mod SoundLaws
 pub mod UseLaws

@@ -30,6 +30,7 @@ pub mod Outcomes
 pub mod Outside
 pub mod Polynomials
 pub mod Reading
+pub mod Ready
 pub mod RegionWords
 pub mod Report
 pub mod Room
