@@ -9,6 +9,7 @@ pub mod Entries
 pub mod EventText
 pub mod Facts
 pub mod Faults
+pub mod Findings
 pub mod Gcm
 pub mod GuestMemory
 pub mod GuestReads
@@ -36,6 +37,7 @@ pub mod Skips
 pub mod Sound
 pub mod State
 pub mod Step
+pub mod Texts
 pub mod Touches
 pub mod Verdicts
 pub mod Walking
