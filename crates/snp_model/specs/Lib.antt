@@ -10,6 +10,7 @@ pub mod Entries
 pub mod EventText
 pub mod Facts
 pub mod Faults
+pub mod Findings
 pub mod Gcm
 pub mod GuestMemory
 pub mod GuestReads
@@ -40,6 +41,7 @@ pub mod Skips
 pub mod Sound
 pub mod State
 pub mod Step
+pub mod Texts
 pub mod Touches
 pub mod Verdicts
 pub mod Walking
