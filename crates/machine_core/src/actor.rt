@@ -143,14 +143,18 @@ impl ActorState {
         ensures event { result ≡ record { item = self.old.item; attempt = self.old.attempt; deed = shown.now.deed; outcome = shown.now.outcome } }
         ensures part { (contents : Contents) → self.new ≡ part_after self.old (move_by shown.now contents self.old) shown.now.outcome }
     {
-        let event = Event {
-            item: self.item as u32,
-            attempt: self.attempt,
-            deed: shown.deed,
-            outcome: shown.outcome,
-        };
+        let item = self.item as u32;
+        let attempt = self.attempt;
         match shown.outcome {
-            None => self.keep(shown.deed),
+            None => {
+                self.keep(shown.deed);
+                Event {
+                    item,
+                    attempt,
+                    deed: shown.deed,
+                    outcome: None,
+                }
+            }
             Some(outcome) => {
                 let line = self.line();
                 if tries_again(&line, self.attempt, &outcome) {
@@ -162,9 +166,14 @@ impl ActorState {
                 self.deeds.clear();
                 self.words.clear();
                 self.last = last_after(self.last, outcome);
+                Event {
+                    item,
+                    attempt,
+                    deed: shown.deed,
+                    outcome: Some(outcome),
+                }
             }
         }
-        event
     }
 }
 

@@ -91,7 +91,6 @@ fn begin(guests: &[GuestSpec], guest: u8, address: u64) -> Shown
 }
 
 // The event of reading a word of a nested table.
-#[inline(never)]
 #[tactic(auto, using(crate::proofs::CpuLaws::nested_read_more))]
 fn read_nested<P: Parts>(
     parts: &P,
@@ -125,7 +124,6 @@ fn read_nested<P: Parts>(
 }
 
 // The event of reading a word of a guest table, with its check.
-#[inline(never)]
 #[tactic(auto, using(crate::proofs::CpuLaws::table_read_more))]
 fn read_table<P: Parts>(
     parts: &P,
@@ -228,7 +226,6 @@ fn data_place(
 }
 
 // The event of the access itself, at the frame that its walks have come to.
-#[inline(never)]
 fn reach<P: Parts>(parts: &mut P, place: &Place, frame: u32, op: &Op) -> Shown
     requires has { IsSome (P.bays parts.old (frame / 512)) }
     requires place { IsPlace place.now }

@@ -67,7 +67,15 @@ fn next_event<P: Parts>(
                 npt,
                 paging,
             };
-            cpu_event(parts, frames, guests, part, cpu, line.item, part.guest_stands())
+            cpu_event(
+                parts,
+                frames,
+                guests,
+                part,
+                cpu,
+                line.item,
+                part.guest_stands(),
+            )
         }
         Role::Host => host_event(parts, frames, part, line.item),
         Role::Firmware => firmware_event(parts, frames, part, line.item),

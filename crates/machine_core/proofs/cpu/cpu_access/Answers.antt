@@ -1,7 +1,7 @@
 use Rattle.std.proofs.Common.{◌≡◌, sym, ap, ◌∙◌, arith}
 use Rattle.std.proofs.lemmas.Grind.{common_steps}
 use Rattle.snp_model.specs.Step.{need_move}
-use Rattle.snp_model.specs.Walking.{guest_stands, walk_need, need_after}
+use Rattle.snp_model.specs.Walking.{walk_need, need_after}
 use Rattle.machine_core.specs.Bays.{contents_of}
 use Rattle.machine_core.specs.Moves.{processor_of}
 use Rattle.machine_core.proofs.CpuLaws.{access_begun, table_shows}
