@@ -60,11 +60,16 @@ own_stock bays = record { bays = own_bays bays }
 abbrev pub contents_of : Stock → List GuestSpec → Contents
 contents_of stock guests = record { pages = pages_of stock.bays; contexts = opening_contexts guests }
 
--- the locks of a stock, by their holders: no event locks a context yet
+-- locks, by their holders
 pub record Locks : Type 0 where
   pub holder : ℕ → Option ℕ
   pub context_holder : ℕ → Option ℕ
 
+-- no lock at all
+abbrev pub no_locks : Locks
+no_locks = record { holder = λ _. None; context_holder = λ _. None }
+
+-- the locks of a stock; no event locks a context yet
 abbrev pub locks_of : Stock → Locks
 locks_of stock = record { holder = holders_of stock.bays; context_holder = λ _. None }
 
