@@ -129,9 +129,10 @@ impl ActorState {
         let stays = !self.deeds.is_empty() && is_nested_read(&deed);
         self.words.read(&deed);
         self.deeds.push(deed);
-        let line = line_at(&self.script, self.item);
-        let words = self.words.guest.as_slice();
-        self.stands = stands_with(&self.role, &line.item, words, self.stands, stays);
+        if !stays {
+            let line = line_at(&self.script, self.item);
+            self.stands = item_stands(&self.role, &line.item, self.words.guest.as_slice());
+        }
     }
 
     /// Takes down what an event shows, and gives the event.
@@ -143,18 +144,14 @@ impl ActorState {
         ensures event { result ≡ record { item = self.old.item; attempt = self.old.attempt; deed = shown.now.deed; outcome = shown.now.outcome } }
         ensures part { (contents : Contents) → self.new ≡ part_after self.old (move_by shown.now contents self.old) shown.now.outcome }
     {
-        let item = self.item as u32;
-        let attempt = self.attempt;
+        let event = Event {
+            item: self.item as u32,
+            attempt: self.attempt,
+            deed: shown.deed,
+            outcome: shown.outcome,
+        };
         match shown.outcome {
-            None => {
-                self.keep(shown.deed);
-                Event {
-                    item,
-                    attempt,
-                    deed: shown.deed,
-                    outcome: None,
-                }
-            }
+            None => self.keep(shown.deed),
             Some(outcome) => {
                 let line = self.line();
                 if tries_again(&line, self.attempt, &outcome) {
@@ -166,14 +163,9 @@ impl ActorState {
                 self.deeds.clear();
                 self.words.clear();
                 self.last = last_after(self.last, outcome);
-                Event {
-                    item,
-                    attempt,
-                    deed: shown.deed,
-                    outcome: Some(outcome),
-                }
             }
         }
+        event
     }
 }
 
@@ -201,21 +193,6 @@ fn is_nested_read(deed: &Deed) -> bool
         | Deed::Commit { .. }
         | Deed::CommitContext { .. }
         | Deed::Control => false,
-    }
-}
-
-// Where a guest walk stands that has read these words: where it stood, if it stays there.
-fn stands_with(role: &Role, item: &Item, words: &[u64], stood: GuestEnd, stays: bool) -> GuestEnd
-    requires role { IsPagingRole role.now }
-    requires inside { IsGuestInside stood }
-    requires stays { stays ≡ true → stood ≡ stands_of role.now item.now words.now }
-    ensures stands { result ≡ stands_of role.now item.now words.now }
-    ensures inside { IsGuestInside result }
-{
-    if stays {
-        stood
-    } else {
-        item_stands(role, item, words)
     }
 }
 
