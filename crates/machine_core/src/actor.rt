@@ -12,7 +12,7 @@ use crate::shown::Shown;
 use crate::walking::item_stands;
 use crate::words::Words;
 use arrayvec::ArrayVec;
-use snp_model::{Actor, Deed, Event, GuestEnd, Item, Line, Listed, Outcome, Role};
+use snp_model::{Actor, Deed, Event, GuestEnd, Line, Listed, Outcome, Role};
 use std::alloc::{AllocError, Global};
 use std::marker::Model;
 
@@ -25,7 +25,7 @@ pub struct ActorState {
     attempt: u32,
     deeds: ArrayVec<Deed, 32>,
     words: Words,
-    // Where the guest walk of the open attempt stands.
+    // Where the guest walk of the open attempt stands; before it opens, anywhere.
     stands: GuestEnd,
     last: Option<Outcome>,
 }
