@@ -1,4 +1,4 @@
-ghost use Rattle.std.specs.Prelude.{◌≡◌, ◌++◌, ◌∷◌, [], ◌+◌, ◌<◌, ◌≤◌, ◌^◌, ◌==◌, nat_le, true, length, None, IfOk, IsNone};
+ghost use Rattle.std.specs.Prelude.{◌≡◌, ◌++◌, ◌∷◌, [], ◌+◌, ◌<◌, ◌≤◌, ◌^◌, ◌==◌, nat_le, length, None, IfOk, IsNone};
 ghost use Rattle.snp_model.specs.Opening.{opening_part};
 ghost use Rattle.snp_model.specs.Step.{line_at, passed_over, tries_again, last_after, part_after};
 ghost use Rattle.snp_model.specs.declared.event.Event.{Event};
@@ -119,7 +119,6 @@ impl ActorState {
     }
 
     // One more deed of the open attempt.
-    #[tactic(auto, using(crate::proofs::ActorLaws::actor_keeps))]
     fn keep(&mut self, deed: Deed)
         requires role { IsPagingRole self.old.role }
         requires unfinished { self.old.item < length self.old.script }
