@@ -1,4 +1,4 @@
-ghost use Rattle.std.specs.Prelude.{◌≡◌, ◌++◌, ◌∷◌, [], ◌+◌, ◌<◌, ◌≤◌, ◌^◌, ◌==◌, nat_le, true, length, None, IfOk, IsNone};
+ghost use Rattle.std.specs.Prelude.{◌≡◌, ◌++◌, ◌∷◌, [], ◌+◌, ◌<◌, ◌≤◌, ◌^◌, ◌==◌, nat_le, length, None, IfOk, IsNone};
 ghost use Rattle.snp_model.specs.Opening.{opening_part};
 ghost use Rattle.snp_model.specs.Step.{line_at, passed_over, tries_again, last_after, part_after};
 ghost use Rattle.snp_model.specs.declared.event.Event.{Event};
@@ -13,7 +13,7 @@ use crate::shown::Shown;
 use crate::walk_words::WalkWords;
 use crate::walking::{item_stands, no_walk};
 use arrayvec::ArrayVec;
-use snp_model::{Actor, Deed, Event, GuestEnd, Item, Line, Listed, Outcome, OutcomeClass, Role};
+use snp_model::{Actor, Deed, Event, GuestEnd, Line, Listed, Outcome, OutcomeClass, Role};
 use std::alloc::{AllocError, Global};
 use std::marker::Model;
 
@@ -26,7 +26,7 @@ pub struct ActorState {
     attempt: u32,
     deeds: ArrayVec<Deed, 32>,
     words: WalkWords,
-    // Where the guest walk of the open attempt stands.
+    // Where the guest walk of the open attempt stands; before it opens, anywhere.
     stands: GuestEnd,
     last: Option<Outcome>,
 }
@@ -119,7 +119,6 @@ impl ActorState {
     }
 
     // One more deed of the open attempt.
-    #[tactic(auto, using(crate::proofs::ActorLaws::actor_keeps))]
     fn keep(&mut self, deed: Deed)
         requires role { IsPagingRole self.old.role }
         requires unfinished { self.old.item < length self.old.script }
@@ -129,9 +128,10 @@ impl ActorState {
         let stays = !self.deeds.is_empty() && is_nested_read(&deed);
         self.words.read(&deed);
         self.deeds.push(deed);
-        let line = line_at(&self.script, self.item);
-        let words = self.words.guest.as_slice();
-        self.stands = stands_with(&self.role, &line.item, words, self.stands, stays);
+        if !stays {
+            let line = line_at(&self.script, self.item);
+            self.stands = item_stands(&self.role, &line.item, self.words.guest.as_slice());
+        }
     }
 
     /// Takes down what an event shows, and gives the event.
@@ -143,18 +143,14 @@ impl ActorState {
         ensures event { result ≡ record { item = self.old.item; attempt = self.old.attempt; deed = shown.now.deed; outcome = shown.now.outcome } }
         ensures part { (after : View) → self.new ≡ part_after self.old (move_by shown.now after self.old.standing) shown.now.outcome }
     {
-        let item = self.item as u32;
-        let attempt = self.attempt;
+        let event = Event {
+            item: self.item as u32,
+            attempt: self.attempt,
+            deed: shown.deed,
+            outcome: shown.outcome,
+        };
         match shown.outcome {
-            None => {
-                self.keep(shown.deed);
-                Event {
-                    item,
-                    attempt,
-                    deed: shown.deed,
-                    outcome: None,
-                }
-            }
+            None => self.keep(shown.deed),
             Some(outcome) => {
                 let line = self.line();
                 if tries_again(&line, self.attempt, &outcome) {
@@ -166,14 +162,9 @@ impl ActorState {
                 self.deeds.clear();
                 self.words.clear();
                 self.last = last_after(self.last, outcome);
-                Event {
-                    item,
-                    attempt,
-                    deed: shown.deed,
-                    outcome: Some(outcome),
-                }
             }
         }
+        event
     }
 }
 
@@ -201,21 +192,6 @@ fn is_nested_read(deed: &Deed) -> bool
         | Deed::Commit { .. }
         | Deed::CommitContext { .. }
         | Deed::Control => false,
-    }
-}
-
-// Where a guest walk stands that has read these words: where it stood, if it stays there.
-fn stands_with(role: &Role, item: &Item, words: &[u64], stood: GuestEnd, stays: bool) -> GuestEnd
-    requires role { IsPagingRole role.now }
-    requires inside { IsGuestInside stood }
-    requires stays { stays ≡ true → stood ≡ stands_of role.now item.now words.now }
-    ensures stands { result ≡ stands_of role.now item.now words.now }
-    ensures inside { IsGuestInside result }
-{
-    if stays {
-        stood
-    } else {
-        item_stands(role, item, words)
     }
 }
 

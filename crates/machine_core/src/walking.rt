@@ -1,7 +1,7 @@
 ghost use Rattle.std.specs.Prelude.{◌≡◌, ℕ, ◌<◌, ◌≤◌, ◌^◌, Bool, [], ◌∷◌, ◌++◌};
 ghost use Rattle.snp_model.specs.declared.walk.Lookup.{Lookup};
 ghost use Rattle.snp_model.specs.Bounds.{IsPaging, IsGuestInside, IsNestedInside, IsNeedInside};
-ghost use Rattle.snp_model.specs.GuestWalk.{levels_of};
+ghost use Rattle.snp_model.specs.GuestWalk.{guest_end, levels_of};
 ghost use Rattle.snp_model.specs.Walking.{lookup_of, flat_gpn, guest_path, counting, guest_stands, table_path, data_path, table_need, data_need, walk_need, fault_of};
 ghost use Rattle.machine_core.specs.Walks.{IsPagingRole, IsReading, no_walk, stands_of};
 
@@ -77,15 +77,20 @@ fn guest_stands(paging: Paging, lookup: &Lookup, words: &[u64]) -> GuestEnd
             private: true,
             size: PageSize::Small,
         },
-        Paging::Four(root) => {
-            let path = guest_path(paging, root, lookup);
-            counting(lookup.c_bit, guest_end(&path, words))
-        }
-        Paging::Five(root) => {
-            let path = guest_path(paging, root, lookup);
-            counting(lookup.c_bit, guest_end(&path, words))
-        }
+        Paging::Four(root) => tables_stand(&guest_path(paging, root, lookup), lookup, words),
+        Paging::Five(root) => tables_stand(&guest_path(paging, root, lookup), lookup, words),
     }
+}
+
+// Where it stands in the walk of a path.
+fn tables_stand(path: &GuestPath, lookup: &Lookup, words: &[u64]) -> GuestEnd
+    requires low { 0 < path.now.levels }
+    requires high { path.now.levels ≤ 5 }
+    requires root { path.now.root < 2 ^ 36 }
+    ensures stands { result ≡ counting lookup.now.c_bit (guest_end path.now words.now) }
+    ensures inside { IsGuestInside result }
+{
+    counting(lookup.c_bit, guest_end(path, words))
 }
 
 /// The fault that the guest walk of an item comes to by one word more, if it does. A nested walk that has read no word
@@ -98,14 +103,22 @@ pub fn fault_by_table(paging: Paging, lookup: &Lookup, words: &[u64], word: u64)
     match paging {
         Paging::Flat => None,
         Paging::Four(root) => {
-            let path = guest_path(paging, root, lookup);
-            guest_fault(counting(lookup.c_bit, guest_end_with(&path, words, word)))
+            tables_fault(&guest_path(paging, root, lookup), lookup, words, word)
         }
         Paging::Five(root) => {
-            let path = guest_path(paging, root, lookup);
-            guest_fault(counting(lookup.c_bit, guest_end_with(&path, words, word)))
+            tables_fault(&guest_path(paging, root, lookup), lookup, words, word)
         }
     }
+}
+
+// So in the walk of a path.
+fn tables_fault(path: &GuestPath, lookup: &Lookup, words: &[u64], word: u64) -> Option<Outcome>
+    requires low { 0 < path.now.levels }
+    requires high { path.now.levels ≤ 5 }
+    requires root { path.now.root < 2 ^ 36 }
+    ensures { (frames npt : ℕ) → result ≡ fault_of (walk_need frames npt lookup.now (counting lookup.now.c_bit (guest_end path.now (words.now ++ word ∷ []))) []) }
+{
+    guest_fault(counting(lookup.c_bit, guest_end_with(path, words, word)))
 }
 
 /// What an item needs next, where its guest walk stands here: by the words of nested tables that the nested walk under
