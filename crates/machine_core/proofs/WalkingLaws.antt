@@ -7,7 +7,6 @@ use Rattle.snp_model.specs.declared.walk.NestedEnd.{NestedEnd}
 use Rattle.snp_model.specs.declared.walk.NestedEnd.TheVariants as ends
 use Rattle.snp_model.specs.declared.walk.Need.{Need}
 use Rattle.snp_model.specs.declared.walk.Need.TheVariants as needs
-use Rattle.snp_model.specs.declared.walk.GuestEnd.{GuestEnd}
 use Rattle.snp_model.specs.NestedWalk.{walk_from, nested_end}
 use Rattle.snp_model.specs.declared.item.Op.{Op}
 use Rattle.snp_model.specs.Walking.{table_path, data_path, table_need, data_need, walk_need, fault_of}
