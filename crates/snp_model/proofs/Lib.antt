@@ -3,6 +3,7 @@ pub mod AttemptLaws
 pub mod CoreLaws
 pub mod GuestMemoryLaws
 pub mod GuestReadsLaws
+pub mod InstructionLocality
 pub mod LocalityLaws
 pub mod MemoryLaws
 pub mod MoveLocality
@@ -10,6 +11,7 @@ pub mod NestedReadsLaws
 pub mod OpenAttemptsLaws
 pub mod OpeningLaws
 pub mod OrderedLaws
+pub mod RangeLaws
 pub mod RegionLaws
 pub mod RoomLaws
 pub mod RunLaws

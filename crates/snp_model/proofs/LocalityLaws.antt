@@ -24,6 +24,7 @@ use Rattle.snp_model.specs.State.{Page, Pages, Contents, ActorPart, View, with_w
 use Rattle.snp_model.specs.Moves.{Move}
 use Rattle.snp_model.specs.Step.{pages_after, access_move, data_move, data_place, host_access, skip_move, item_move, line_at, part_after, step_of}
 use Rattle.snp_model.specs.Touches.{Touched, nothing_touched, frame_touched, walk_touches, item_touches, touches, touches_frame, AgreeOn, AgreeBeside, SeeAlike, StepsAlike}
+use Rattle.snp_model.proofs.InstructionLocality.{update_alike, smash_alike, validate_alike, adjust_alike, update_alone, smash_alone, validate_alone, adjust_alone}
 use Rattle.snp_model.proofs.MoveLocality.{MovesAlike, includes_itself, own_frame, other_frame, quiet_alike, misplaced_alike, unbuilt_alike, ArrivesAlike, walked_alike, MovesAlone, quiet_alone, ArrivesAlone, walked_alone}
 
 -- a page after a written word depends on that page before it alone
@@ -105,8 +106,10 @@ item_alike frames guests part (Cpu guest vmpl npt paging) (items.Access address 
     let lookup = lookup_of address op in
     let touched = walk_touches frames cpu lookup part.deeds in
     walked_alike touched frames guests one.contents other.contents part cpu lookup None _ _ part.deeds (includes_itself touched) (data_alike touched guests one.contents other.contents part cpu address op same.contents) same.contents
-item_alike frames guests part (Cpu guest vmpl npt paging) (items.Pvalidate address size validate) one other same = unbuilt_alike nothing_touched one.contents other.contents part same.contents
-item_alike frames guests part (Cpu guest vmpl npt paging) (items.Rmpadjust address size target mask vmsa) one other same = unbuilt_alike nothing_touched one.contents other.contents part same.contents
+item_alike frames guests part (Cpu guest vmpl npt paging) (items.Pvalidate address size validate) one other same =
+    validate_alike frames guests one other part (record { guest = guest; vmpl = vmpl; npt = npt; paging = paging }) address size validate same
+item_alike frames guests part (Cpu guest vmpl npt paging) (items.Rmpadjust address size target mask vmsa) one other same =
+    adjust_alike frames guests one other part (record { guest = guest; vmpl = vmpl; npt = npt; paging = paging }) address size target mask vmsa same
 item_alike frames guests part (Cpu guest vmpl npt paging) (items.Rmpupdate update) one other same = misplaced_alike nothing_touched one.contents other.contents part same.contents
 item_alike frames guests part (Cpu guest vmpl npt paging) (items.Psmash frame) one other same = misplaced_alike nothing_touched one.contents other.contents part same.contents
 item_alike frames guests part (Cpu guest vmpl npt paging) (items.Firmware command) one other same = misplaced_alike nothing_touched one.contents other.contents part same.contents
@@ -114,8 +117,8 @@ item_alike frames guests part (Cpu guest vmpl npt paging) (items.Skip count test
 item_alike frames guests part Host (items.Access address op) one other same = host_alike one.contents other.contents part address op same.contents
 item_alike frames guests part Host (items.Pvalidate address size validate) one other same = misplaced_alike nothing_touched one.contents other.contents part same.contents
 item_alike frames guests part Host (items.Rmpadjust address size target mask vmsa) one other same = misplaced_alike nothing_touched one.contents other.contents part same.contents
-item_alike frames guests part Host (items.Rmpupdate update) one other same = unbuilt_alike nothing_touched one.contents other.contents part same.contents
-item_alike frames guests part Host (items.Psmash frame) one other same = unbuilt_alike nothing_touched one.contents other.contents part same.contents
+item_alike frames guests part Host (items.Rmpupdate update) one other same = update_alike frames one other part update part.standing.locks same
+item_alike frames guests part Host (items.Psmash frame) one other same = smash_alike frames one other part frame part.standing.locks same
 item_alike frames guests part Host (items.Firmware command) one other same = misplaced_alike nothing_touched one.contents other.contents part same.contents
 item_alike frames guests part Host (items.Skip count test) one other same = skip_alike nothing_touched one.contents other.contents part count test same.contents
 item_alike frames guests part Firmware (items.Access address op) one other same = misplaced_alike nothing_touched one.contents other.contents part same.contents
@@ -182,8 +185,10 @@ item_alone frames guests part (Cpu guest vmpl npt paging) (items.Access address 
     let lookup = lookup_of address op in
     let touched = walk_touches frames cpu lookup part.deeds in
     walked_alone touched frames guests view.contents part cpu lookup None _ part.deeds (includes_itself touched) (data_alone touched guests view.contents part cpu address op)
-item_alone frames guests part (Cpu guest vmpl npt paging) (items.Pvalidate address size validate) view = quiet_alone nothing_touched view.contents part _ _
-item_alone frames guests part (Cpu guest vmpl npt paging) (items.Rmpadjust address size target mask vmsa) view = quiet_alone nothing_touched view.contents part _ _
+item_alone frames guests part (Cpu guest vmpl npt paging) (items.Pvalidate address size validate) view =
+    validate_alone frames guests view part (record { guest = guest; vmpl = vmpl; npt = npt; paging = paging }) address size validate
+item_alone frames guests part (Cpu guest vmpl npt paging) (items.Rmpadjust address size target mask vmsa) view =
+    adjust_alone frames guests view part (record { guest = guest; vmpl = vmpl; npt = npt; paging = paging }) address size target mask vmsa
 item_alone frames guests part (Cpu guest vmpl npt paging) (items.Rmpupdate update) view = quiet_alone nothing_touched view.contents part _ _
 item_alone frames guests part (Cpu guest vmpl npt paging) (items.Psmash frame) view = quiet_alone nothing_touched view.contents part _ _
 item_alone frames guests part (Cpu guest vmpl npt paging) (items.Firmware command) view = quiet_alone nothing_touched view.contents part _ _
@@ -191,8 +196,8 @@ item_alone frames guests part (Cpu guest vmpl npt paging) (items.Skip count test
 item_alone frames guests part Host (items.Access address op) view = host_alone view.contents part address op
 item_alone frames guests part Host (items.Pvalidate address size validate) view = quiet_alone nothing_touched view.contents part _ _
 item_alone frames guests part Host (items.Rmpadjust address size target mask vmsa) view = quiet_alone nothing_touched view.contents part _ _
-item_alone frames guests part Host (items.Rmpupdate update) view = quiet_alone nothing_touched view.contents part _ _
-item_alone frames guests part Host (items.Psmash frame) view = quiet_alone nothing_touched view.contents part _ _
+item_alone frames guests part Host (items.Rmpupdate update) view = update_alone frames view part update part.standing.locks
+item_alone frames guests part Host (items.Psmash frame) view = smash_alone frames view part frame part.standing.locks
 item_alone frames guests part Host (items.Firmware command) view = quiet_alone nothing_touched view.contents part _ _
 item_alone frames guests part Host (items.Skip count test) view = quiet_alone nothing_touched view.contents part _ _
 item_alone frames guests part Firmware (items.Access address op) view = quiet_alone nothing_touched view.contents part _ _

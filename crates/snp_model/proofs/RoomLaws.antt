@@ -22,7 +22,9 @@ use Rattle.snp_model.specs.declared.walk.NestedEnd.TheVariants as ends
 use Rattle.snp_model.specs.NestedWalk.{after_word, walk_from, walk_fault, frame_below, has_bit, first_read, nested_end}
 use Rattle.snp_model.specs.declared.scenario.Actor.{Actor}
 use Rattle.snp_model.specs.declared.scenario.Scenario.{Scenario}
-use Rattle.snp_model.specs.State.{ActorPart, Context, Contents, State, View, part_of, idle_part, IsUnfinished}
+use Rattle.snp_model.specs.InstructionStep.{page_lookup, validate_move, adjust_move, update_move, smash_move}
+use Rattle.snp_model.specs.declared.item.Update.{Update}
+use Rattle.snp_model.specs.State.{PageLock, ActorPart, Context, Contents, State, View, part_of, idle_part, IsUnfinished}
 use Rattle.snp_model.specs.Locks.{view_of}
 use Rattle.snp_model.specs.Verdicts.{host_verdict}
 use Rattle.snp_model.specs.declared.access.Verdict.{Verdict}
@@ -35,7 +37,7 @@ use Rattle.snp_model.specs.declared.scenario.Paging.{Paging}
 use Rattle.snp_model.specs.declared.scenario.Paging.TheVariants.{Flat, Four, Five}
 use Rattle.snp_model.specs.declared.scenario.Role.{Role}
 use Rattle.snp_model.specs.declared.scenario.Role.TheVariants.{Cpu, Host, Firmware}
-use Rattle.snp_model.specs.Moves.{Move, Arrival, is_running, quiet_move, unbuilt_move, misplaced_move, faulted_move, begin_move, table_move, need_move, walked_move, table_word}
+use Rattle.snp_model.specs.Moves.{Move, lock_move, Arrival, is_running, quiet_move, unbuilt_move, misplaced_move, faulted_move, begin_move, table_move, need_move, walked_move, table_word}
 use Rattle.snp_model.specs.Step.{Position, step_of, after, part_after, position_after, tries_again, passed_over, item_move, line_at, access_move, data_move, host_access}
 use Rattle.snp_model.specs.Outcomes.{is_in_use}
 use Rattle.snp_model.specs.GuestWalk.{levels_of, is_canonical, is_private_leaf, gpn_below, guest_fault, after_guest_word, guest_walk_from, first_guest_read, guest_end}
@@ -275,31 +277,53 @@ pub nested_words_anew : (ds : List Deed) (g i f : ℕ) (v : Option ℕ) → nest
 unfolding nested_words_after
 nested_words_anew ds g i f v = nested_words_append [] ds (deeds.Table g i f v ∷ [])
 
-short_more : (ds : List Deed) (f i v : ℕ) → IsShort ds → length (nested_words ds) < 4 → IsShort (ds ++ deeds.Nested f i v ∷ [])
-short_more ds f i v short few =
+short_more : (ds : List Deed) (ls : List PageLock) (f i v : ℕ) → IsShort ds ls → length (nested_words ds) < 4 → IsShort (ds ++ deeds.Nested f i v ∷ []) ls
+short_more ds ls f i v short few =
     let nested = ap length (nested_words_more ds f i v) ∙ length_push (nested_words ds) v in
     let tables = ap length (guest_words_same ds f i v) in
     let made = length_push ds (deeds.Nested f i v) in
     let walked = short.walked in
     let few_tables = short.few_tables in
-    record { walked = omega arith; few_tables = omega arith; few = omega arith }
+    record { walked = omega arith; few_tables = omega arith; few = omega arith; few_locks = short.few_locks }
 
-short_table : (ds : List Deed) (g i f v : ℕ) → IsShort ds → length (guest_words ds) < 5 → IsShort (ds ++ deeds.Table g i f (Some v) ∷ [])
-short_table ds g i f v short more =
+short_table : (ds : List Deed) (ls : List PageLock) (g i f v : ℕ) → IsShort ds ls → length (guest_words ds) < 5 → IsShort (ds ++ deeds.Table g i f (Some v) ∷ []) ls
+short_table ds ls g i f v short more =
     let nested = ap length (nested_words_anew ds g i f (Some v)) in
     let tables = ap length (guest_words_more ds g i f v) ∙ length_push (guest_words ds) v in
     let made = length_push ds (deeds.Table g i f (Some v)) in
     let walked = short.walked in
     let few = short.few in
-    record { walked = omega arith; few_tables = omega arith; few = omega arith }
+    record { walked = omega arith; few_tables = omega arith; few = omega arith; few_locks = short.few_locks }
 
-short_begun : (ds : List Deed) → ds ≡ [] → IsShort (ds ++ deeds.Begin ∷ [])
+short_begun : (ds : List Deed) (ls : List PageLock) → ds ≡ [] → IsShort ds ls → IsShort (ds ++ deeds.Begin ∷ []) ls
 unfolding guest_words nested_words_after
-short_begun ds none = subst (λ (es : List Deed). IsShort (es ++ deeds.Begin ∷ [])) (sym none) (record { walked = omega arith; few_tables = omega arith; few = omega arith })
+short_begun ds ls none short =
+    subst (λ (es : List Deed). IsShort (es ++ deeds.Begin ∷ []) ls) (sym none) (record { walked = omega arith; few_tables = omega arith; few = omega arith; few_locks = short.few_locks })
+
+-- a lock more
+guest_words_locked : (ds : List Deed) (f : ℕ) → guest_words (ds ++ deeds.Lock f ∷ []) ≡ guest_words ds
+unfolding guest_words
+guest_words_locked ds f = guest_words_append ds (deeds.Lock f ∷ []) ∙ append-nil (guest_words ds)
+
+nested_words_locked : (ds : List Deed) (f : ℕ) → nested_words (ds ++ deeds.Lock f ∷ []) ≡ nested_words ds
+unfolding nested_words_after
+nested_words_locked ds f = nested_words_append [] ds (deeds.Lock f ∷ [])
+
+short_locked : (ds : List Deed) (ls : List PageLock) (f : ℕ) (lock : PageLock) → ls ≡ [] → IsShort ds ls → IsShort (ds ++ deeds.Lock f ∷ []) (ls ++ lock ∷ [])
+short_locked ds ls f lock none short =
+    let nested = ap length (nested_words_locked ds f) in
+    let tables = ap length (guest_words_locked ds f) in
+    let made = length_push ds (deeds.Lock f) in
+    let locks = length_push ls lock in
+    let no_lock = ap length none in
+    let walked = short.walked in
+    let few_tables = short.few_tables in
+    let few = short.few in
+    record { walked = omega arith; few_tables = omega arith; few = omega arith; few_locks = omega arith }
 
 -- a move leaves its attempt short, if it leaves it open
 record LeavesShort (part : ActorPart) (move : Move) : Type 0 where
-  open_is : move.outcome ≡ None → IsShort (part.deeds ++ move.deed ∷ [])
+  open_is : move.outcome ≡ None → IsShort (part.deeds ++ move.deed ∷ []) move.standing.locks
 
 unbuilt_short : (contents : Contents) (part : ActorPart) → LeavesShort part (unbuilt_move contents part)
 unbuilt_short contents part = record { open_is = λ none. cc }
@@ -316,20 +340,20 @@ access_short contents part deed Pass op frame index = record { open_is = λ none
 access_short contents part deed Hidden op frame index = record { open_is = λ none. cc }
 access_short contents part deed (Fault outcome) op frame index = record { open_is = λ none. cc }
 
-quiet_begun : (contents : Contents) (part : ActorPart) (outcome : Option Outcome) → part.deeds ≡ [] → LeavesShort part (quiet_move contents part deeds.Begin outcome)
-quiet_begun contents part outcome none = record { open_is = λ _. short_begun part.deeds none }
+quiet_begun : (contents : Contents) (part : ActorPart) (outcome : Option Outcome) → part.deeds ≡ [] → IsShort part.deeds part.standing.locks → LeavesShort part (quiet_move contents part deeds.Begin outcome)
+quiet_begun contents part outcome none short = record { open_is = λ _. short_begun part.deeds part.standing.locks none short }
 
-begin_short : (contents : Contents) (part : ActorPart) (context : Context) (levels address : ℕ) (refusal : Option Outcome) → part.deeds ≡ [] → LeavesShort part (begin_move contents part context levels address refusal)
+begin_short : (contents : Contents) (part : ActorPart) (context : Context) (levels address : ℕ) (refusal : Option Outcome) → part.deeds ≡ [] → IsShort part.deeds part.standing.locks → LeavesShort part (begin_move contents part context levels address refusal)
 unfolding begin_move
-begin_short contents part context levels address refusal none =
-    let begun = λ (outcome : Option Outcome). quiet_begun contents part outcome none in
+begin_short contents part context levels address refusal none short =
+    let begun = λ (outcome : Option Outcome). quiet_begun contents part outcome none short in
     cond_both (not (is_running context.state)) _ _ (LeavesShort part) (λ _. begun (Some outcomes.Offline))
     (λ _. cond_both (not (is_canonical levels address)) _ _ (LeavesShort part) (λ _. begun (Some outcomes.Gp)) (λ _. begun refusal))
 
 table_short : (frames : ℕ) (contents : Contents) (part : ActorPart) (cpu : Processor) (lookup : Lookup) (verdict : Verdict) (gpn index frame : ℕ)
-    → length (guest_words part.deeds) < 5 → IsShort part.deeds → LeavesShort part (table_move frames contents part cpu lookup verdict gpn index frame)
+    → length (guest_words part.deeds) < 5 → IsShort part.deeds part.standing.locks → LeavesShort part (table_move frames contents part cpu lookup verdict gpn index frame)
 unfolding table_move
-table_short frames contents part cpu lookup Pass gpn index frame more short = record { open_is = λ _. short_table part.deeds gpn index frame _ short more }
+table_short frames contents part cpu lookup Pass gpn index frame more short = record { open_is = λ _. short_table part.deeds part.standing.locks gpn index frame _ short more }
 table_short frames contents part cpu lookup Hidden gpn index frame more short = record { open_is = λ none. cc }
 table_short frames contents part cpu lookup (Fault outcome) gpn index frame more short = record { open_is = λ none. cc }
 
@@ -342,11 +366,11 @@ data_short guests contents part cpu address op gpn private frame size =
     access_short contents part (deeds.Access gpn (index_of address) frame private) _ op frame (index_of address)
 
 need_short : (frames : ℕ) (guests : List GuestSpec) (contents : Contents) (part : ActorPart) (cpu : Processor) (lookup : Lookup) (arrives : Arrival) (need : Need)
-    → ArrivesShort part arrives → need_after frames cpu lookup part.deeds ≡ need → IsShort part.deeds → LeavesShort part (need_move frames guests contents part cpu lookup arrives need)
+    → ArrivesShort part arrives → need_after frames cpu lookup part.deeds ≡ need → IsShort part.deeds part.standing.locks → LeavesShort part (need_move frames guests contents part cpu lookup arrives need)
 unfolding need_move
 need_short frames guests contents part cpu lookup arrives (needs.Nested frame index) arrived is short =
     let few = nested_few frames cpu.npt lookup (guest_stands cpu.paging lookup (guest_words part.deeds)) (nested_words part.deeds) frame index is in
-    record { open_is = λ _. short_more part.deeds frame index (table_word (contents.pages frame) index) short few }
+    record { open_is = λ _. short_more part.deeds part.standing.locks frame index (table_word (contents.pages frame) index) short few }
 need_short frames guests contents part cpu lookup arrives (needs.Table gpn index frame size) arrived is short =
     let stands = guest_stands cpu.paging lookup (guest_words part.deeds) in
     let read = table_stands frames cpu.npt lookup stands (nested_words part.deeds) gpn index frame size is in
@@ -355,20 +379,54 @@ need_short frames guests contents part cpu lookup arrives (needs.Data gpn privat
 need_short frames guests contents part cpu lookup arrives (needs.Fault outcome) arrived is short = faulted_short contents part
 
 walked_short : (frames : ℕ) (guests : List GuestSpec) (contents : Contents) (part : ActorPart) (cpu : Processor) (lookup : Lookup) (refusal : Option Outcome) (arrives : Arrival) (made : List Deed)
-    → ArrivesShort part arrives → part.deeds ≡ made → IsShort part.deeds → LeavesShort part (walked_move frames guests contents part cpu lookup refusal arrives made)
+    → ArrivesShort part arrives → part.deeds ≡ made → IsShort part.deeds part.standing.locks → LeavesShort part (walked_move frames guests contents part cpu lookup refusal arrives made)
 unfolding walked_move
-walked_short frames guests contents part cpu lookup refusal arrives [] arrived is short = begin_short contents part (contents.contexts cpu.guest) (levels_of cpu.paging) lookup.address refusal is
+walked_short frames guests contents part cpu lookup refusal arrives [] arrived is short = begin_short contents part (contents.contexts cpu.guest) (levels_of cpu.paging) lookup.address refusal is short
 walked_short frames guests contents part cpu lookup refusal arrives (deed ∷ others) arrived is short =
     need_short frames guests contents part cpu lookup arrives _ arrived (ap (λ (ds : List Deed). need_after frames cpu lookup ds) is) short
 
+-- an event that takes a lock, the first one
+lock_short : (contents : Contents) (part : ActorPart) (lock : PageLock) (refusal : Option Outcome) → part.standing.locks ≡ [] → IsShort part.deeds part.standing.locks → LeavesShort part (lock_move contents part lock refusal)
+unfolding lock_move
+lock_short contents part lock None none short = record { open_is = λ _. short_locked part.deeds part.standing.locks lock.frame lock none short }
+lock_short contents part lock (Some outcome) none short = record { open_is = λ e. cc }
+
+validate_short : (guests : List GuestSpec) (view : View) (part : ActorPart) (cpu : Processor) (size : PageSize) (validate : Bool) (locks : List PageLock)
+    → part.standing.locks ≡ locks → IsShort part.deeds part.standing.locks → ArrivesShort part (validate_move guests view part cpu size validate locks)
+unfolding validate_move
+validate_short guests view part cpu size validate [] none short gpn private frame leaf = lock_short view.contents part _ _ none short
+validate_short guests view part cpu size validate (lock ∷ others) some short gpn private frame leaf = record { open_is = λ e. cc }
+
+adjust_short : (guests : List GuestSpec) (view : View) (part : ActorPart) (cpu : Processor) (size : PageSize) (target mask : ℕ) (vmsa : Bool) (locks : List PageLock)
+    → part.standing.locks ≡ locks → IsShort part.deeds part.standing.locks → ArrivesShort part (adjust_move guests view part cpu size target mask vmsa locks)
+unfolding adjust_move
+adjust_short guests view part cpu size target mask vmsa [] none short gpn private frame leaf = lock_short view.contents part _ _ none short
+adjust_short guests view part cpu size target mask vmsa (lock ∷ others) some short gpn private frame leaf = record { open_is = λ e. cc }
+
+update_short : (frames : ℕ) (view : View) (part : ActorPart) (update : Update) (locks : List PageLock)
+    → part.standing.locks ≡ locks → IsShort part.deeds part.standing.locks → LeavesShort part (update_move frames view part update locks)
+unfolding update_move
+update_short frames view part update [] none short = lock_short view.contents part _ _ none short
+update_short frames view part update (lock ∷ others) some short = record { open_is = λ e. cc }
+
+smash_short : (frames : ℕ) (view : View) (part : ActorPart) (frame : ℕ) (locks : List PageLock)
+    → part.standing.locks ≡ locks → IsShort part.deeds part.standing.locks → LeavesShort part (smash_move frames view part frame locks)
+unfolding smash_move
+smash_short frames view part frame [] none short = lock_short view.contents part _ _ none short
+smash_short frames view part frame (lock ∷ others) some short = record { open_is = λ e. cc }
+
 -- so each item's move
-move_short : (frames : ℕ) (guests : List GuestSpec) (view : View) (part : ActorPart) (role : Role) (item : Item) → IsShort part.deeds → LeavesShort part (item_move frames guests view part role item)
+move_short : (frames : ℕ) (guests : List GuestSpec) (view : View) (part : ActorPart) (role : Role) (item : Item) → IsShort part.deeds part.standing.locks → LeavesShort part (item_move frames guests view part role item)
 unfolding item_move host_access
 move_short frames guests view part (Cpu guest vmpl npt paging) (items.Access address op) short =
     let cpu : Processor = record { guest = guest; vmpl = vmpl; npt = npt; paging = paging } in
     walked_short frames guests view.contents part cpu (lookup_of address op) None _ part.deeds (data_short guests view.contents part cpu address op) refl short
-move_short frames guests view part (Cpu guest vmpl npt paging) (items.Pvalidate address size validate) short = unbuilt_short view.contents part
-move_short frames guests view part (Cpu guest vmpl npt paging) (items.Rmpadjust address size target mask vmsa) short = unbuilt_short view.contents part
+move_short frames guests view part (Cpu guest vmpl npt paging) (items.Pvalidate address size validate) short =
+    let cpu : Processor = record { guest = guest; vmpl = vmpl; npt = npt; paging = paging } in
+    walked_short frames guests view.contents part cpu (page_lookup address) _ _ part.deeds (validate_short guests view part cpu size validate part.standing.locks refl short) refl short
+move_short frames guests view part (Cpu guest vmpl npt paging) (items.Rmpadjust address size target mask vmsa) short =
+    let cpu : Processor = record { guest = guest; vmpl = vmpl; npt = npt; paging = paging } in
+    walked_short frames guests view.contents part cpu (page_lookup address) _ _ part.deeds (adjust_short guests view part cpu size target mask vmsa part.standing.locks refl short) refl short
 move_short frames guests view part (Cpu guest vmpl npt paging) (items.Rmpupdate update) short = misplaced_short view.contents part
 move_short frames guests view part (Cpu guest vmpl npt paging) (items.Psmash frame) short = misplaced_short view.contents part
 move_short frames guests view part (Cpu guest vmpl npt paging) (items.Firmware command) short = misplaced_short view.contents part
@@ -377,8 +435,8 @@ move_short frames guests view part Host (items.Access address op) short =
     access_short view.contents part (deeds.Host (address / 4096) (index_of address)) (host_verdict (view.contents.pages (address / 4096)).facts op) op (address / 4096) (index_of address)
 move_short frames guests view part Host (items.Pvalidate address size validate) short = misplaced_short view.contents part
 move_short frames guests view part Host (items.Rmpadjust address size target mask vmsa) short = misplaced_short view.contents part
-move_short frames guests view part Host (items.Rmpupdate update) short = unbuilt_short view.contents part
-move_short frames guests view part Host (items.Psmash frame) short = unbuilt_short view.contents part
+move_short frames guests view part Host (items.Rmpupdate update) short = update_short frames view part update part.standing.locks refl short
+move_short frames guests view part Host (items.Psmash frame) short = smash_short frames view part frame part.standing.locks refl short
 move_short frames guests view part Host (items.Firmware command) short = misplaced_short view.contents part
 move_short frames guests view part Host (items.Skip count test) short = record { open_is = λ none. cc }
 move_short frames guests view part Firmware (items.Access address op) short = misplaced_short view.contents part
@@ -390,30 +448,35 @@ move_short frames guests view part Firmware (items.Firmware command) short = unb
 move_short frames guests view part Firmware (items.Skip count test) short = record { open_is = λ none. cc }
 
 -- a short attempt has fewer deeds than an array of 32 holds, also with the next one
-pub deeds_short : (ds : List Deed) → IsShort ds → length ds < 32
-deeds_short ds short = let walked = short.walked in let few_tables = short.few_tables in let few = short.few in omega arith
+pub deeds_short : (ds : List Deed) (ls : List PageLock) → IsShort ds ls → length ds < 32
+deeds_short ds ls short =
+    let walked = short.walked in
+    let few_tables = short.few_tables in
+    let few = short.few in
+    let few_locks = short.few_locks in
+    omega arith
 
 -- a move lowers its actor's room, and leaves its part bounded
 record Lowers (old new : ActorPart) : Type 0 where
   bounded : IsBounded new
   less : part_room new < part_room old
 
-no_deeds_short : IsShort []
+no_deeds_short : IsShort [] []
 unfolding guest_words nested_words_after
-no_deeds_short = record { walked = omega arith; few_tables = omega arith; few = omega arith }
+no_deeds_short = record { walked = omega arith; few_tables = omega arith; few = omega arith; few_locks = omega arith }
 
-part_lowers : (p : ActorPart) (move : Move) (outcome : Option Outcome) → IsBounded p → p.item < length p.script → (outcome ≡ None → IsShort (p.deeds ++ move.deed ∷ [])) → Lowers p (part_after p move outcome)
+part_lowers : (p : ActorPart) (move : Move) (outcome : Option Outcome) → IsBounded p → p.item < length p.script → (outcome ≡ None → IsShort (p.deeds ++ move.deed ∷ []) move.standing.locks) → Lowers p (part_after p move outcome)
 unfolding part_after part_room
 part_lowers p move None bounded has short =
     let l = line_at p.script p.item in
     let ls = drop (suc p.item) p.script in
-    let grows = line_grows l ls p.attempt (length p.deeds) (bounded.within has) (deeds_short p.deeds bounded.short) in
+    let grows = line_grows l ls p.attempt (length p.deeds) (bounded.within has) (deeds_short p.deeds p.standing.locks bounded.short) in
     record {
       bounded = record { short = short refl; within = bounded.within };
       less = rw (drop_here p.script p.item has, length_push p.deeds move.deed) grows;
     }
 part_lowers p move (Some outcome) bounded has short =
-    let lowers = position_lowers p.script (record { item = p.item; attempt = p.attempt }) outcome (length p.deeds) has (bounded.within has) (deeds_short p.deeds bounded.short) in
+    let lowers = position_lowers p.script (record { item = p.item; attempt = p.attempt }) outcome (length p.deeds) has (bounded.within has) (deeds_short p.deeds p.standing.locks bounded.short) in
     record { bounded = record { short = no_deeds_short; within = lowers.within }; less = lowers.room }
 
 set_lowers : (ps : List ActorPart) (k : ℕ) (x : ActorPart) → k < length ps → part_room x < part_room (get_or ps k idle_part) → parts_room (set ps k x) < parts_room ps
@@ -499,7 +562,7 @@ run_length c s d =
 
 -- the open attempt of an actor has fewer deeds than an array of 32 holds, before an event and after it
 pub state_deeds_short : (m : State) (actor : ℕ) → AreBounded m → actor - 1 < length m.actors → length (part_of m actor).deeds < 32
-state_deeds_short m actor bounded within = deeds_short (part_of m actor).deeds (bounded (actor - 1) idle_part within).short
+state_deeds_short m actor bounded within = deeds_short (part_of m actor).deeds (part_of m actor).standing.locks (bounded (actor - 1) idle_part within).short
 
 -- an actor's part stays bounded in its own step, whatever it looks at
 pub step_bounded : (frames : ℕ) (guests : List GuestSpec) (part : ActorPart) (view : View) → IsBounded part → part.item < length part.script → IsBounded (step_of frames guests part view).part

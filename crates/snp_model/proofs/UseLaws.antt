@@ -49,6 +49,14 @@ RoleOwns guest asid guests (Cpu owner vmpl npt paging) = Owns guest asid guests 
 RoleOwns guest asid guests Host = Unit {0}
 RoleOwns guest asid guests Firmware = Unit {0}
 
+-- an item of which this is proved: no scenario has an instruction of the RMP yet
+abbrev pub IsProved : Role → Item → Type 0
+IsProved (Cpu owner vmpl npt paging) (items.Pvalidate address size validate) = ⊥
+IsProved (Cpu owner vmpl npt paging) (items.Rmpadjust address size target mask vmsa) = ⊥
+IsProved Host (items.Rmpupdate update) = ⊥
+IsProved Host (items.Psmash frame) = ⊥
+IsProved role item = Unit {0}
+
 -- before an event
 pub record Before (asid : ℕ) (memory : Memory) (old : Contents) : Type 0 where
   pub core : Core old.pages asid memory
@@ -351,33 +359,33 @@ walked_fine guest asid guests memory frames old part cpu item lookup refusal arr
 
 -- so each item's move
 pub item_fine : (guest asid : ℕ) (guests : List GuestSpec) (memory : Memory) (frames : ℕ) (view : View) (part : ActorPart) (role : Role) (item : Item)
-    → Before asid memory view.contents → RoleOwns guest asid guests role
+    → Before asid memory view.contents → RoleOwns guest asid guests role → IsProved role item
     → MoveFine guest asid memory view.contents role item (item_move frames guests view part role item)
 unfolding item_move host_access use_of
-item_fine guest asid guests memory frames view part (Cpu owner vmpl npt paging) (items.Access address op) before owns =
+item_fine guest asid guests memory frames view part (Cpu owner vmpl npt paging) (items.Access address op) before owns known =
     let cpu : Processor = record { guest = owner; vmpl = vmpl; npt = npt; paging = paging } in
     walked_fine guest asid guests memory frames view.contents part cpu (items.Access address op) (lookup_of address op) None _ part.deeds before owns (data_fine guest asid guests memory view.contents part cpu address op before owns)
-item_fine guest asid guests memory frames view part (Cpu owner vmpl npt paging) (items.Pvalidate address size validate) before owns = unbuilt_fine guest asid memory view.contents part (Cpu owner vmpl npt paging) (items.Pvalidate address size validate) before
-item_fine guest asid guests memory frames view part (Cpu owner vmpl npt paging) (items.Rmpadjust address size target mask vmsa) before owns = unbuilt_fine guest asid memory view.contents part (Cpu owner vmpl npt paging) (items.Rmpadjust address size target mask vmsa) before
-item_fine guest asid guests memory frames view part (Cpu owner vmpl npt paging) (items.Rmpupdate update) before owns = misplaced_fine guest asid memory view.contents part (Cpu owner vmpl npt paging) (items.Rmpupdate update) before
-item_fine guest asid guests memory frames view part (Cpu owner vmpl npt paging) (items.Psmash frame) before owns = misplaced_fine guest asid memory view.contents part (Cpu owner vmpl npt paging) (items.Psmash frame) before
-item_fine guest asid guests memory frames view part (Cpu owner vmpl npt paging) (items.Firmware command) before owns = misplaced_fine guest asid memory view.contents part (Cpu owner vmpl npt paging) (items.Firmware command) before
-item_fine guest asid guests memory frames view part (Cpu owner vmpl npt paging) (items.Skip count test) before owns =
+item_fine guest asid guests memory frames view part (Cpu owner vmpl npt paging) (items.Pvalidate address size validate) before owns known = absurd known
+item_fine guest asid guests memory frames view part (Cpu owner vmpl npt paging) (items.Rmpadjust address size target mask vmsa) before owns known = absurd known
+item_fine guest asid guests memory frames view part (Cpu owner vmpl npt paging) (items.Rmpupdate update) before owns known = misplaced_fine guest asid memory view.contents part (Cpu owner vmpl npt paging) (items.Rmpupdate update) before
+item_fine guest asid guests memory frames view part (Cpu owner vmpl npt paging) (items.Psmash frame) before owns known = misplaced_fine guest asid memory view.contents part (Cpu owner vmpl npt paging) (items.Psmash frame) before
+item_fine guest asid guests memory frames view part (Cpu owner vmpl npt paging) (items.Firmware command) before owns known = misplaced_fine guest asid memory view.contents part (Cpu owner vmpl npt paging) (items.Firmware command) before
+item_fine guest asid guests memory frames view part (Cpu owner vmpl npt paging) (items.Skip count test) before owns known =
     quiet_fine guest asid memory view.contents part (Cpu owner vmpl npt paging) (items.Skip count test) deeds.Control (Some (skip_outcome count test part.last)) before refl
-item_fine guest asid guests memory frames view part Host (items.Access address op) before owns =
+item_fine guest asid guests memory frames view part Host (items.Access address op) before owns known =
     host_fine guest asid memory view.contents part (items.Access address op) op (address / 4096) (index_of address) _ before refl
-item_fine guest asid guests memory frames view part Host (items.Pvalidate address size validate) before owns = misplaced_fine guest asid memory view.contents part Host (items.Pvalidate address size validate) before
-item_fine guest asid guests memory frames view part Host (items.Rmpadjust address size target mask vmsa) before owns = misplaced_fine guest asid memory view.contents part Host (items.Rmpadjust address size target mask vmsa) before
-item_fine guest asid guests memory frames view part Host (items.Rmpupdate update) before owns = unbuilt_fine guest asid memory view.contents part Host (items.Rmpupdate update) before
-item_fine guest asid guests memory frames view part Host (items.Psmash frame) before owns = unbuilt_fine guest asid memory view.contents part Host (items.Psmash frame) before
-item_fine guest asid guests memory frames view part Host (items.Firmware command) before owns = misplaced_fine guest asid memory view.contents part Host (items.Firmware command) before
-item_fine guest asid guests memory frames view part Host (items.Skip count test) before owns =
+item_fine guest asid guests memory frames view part Host (items.Pvalidate address size validate) before owns known = misplaced_fine guest asid memory view.contents part Host (items.Pvalidate address size validate) before
+item_fine guest asid guests memory frames view part Host (items.Rmpadjust address size target mask vmsa) before owns known = misplaced_fine guest asid memory view.contents part Host (items.Rmpadjust address size target mask vmsa) before
+item_fine guest asid guests memory frames view part Host (items.Rmpupdate update) before owns known = absurd known
+item_fine guest asid guests memory frames view part Host (items.Psmash frame) before owns known = absurd known
+item_fine guest asid guests memory frames view part Host (items.Firmware command) before owns known = misplaced_fine guest asid memory view.contents part Host (items.Firmware command) before
+item_fine guest asid guests memory frames view part Host (items.Skip count test) before owns known =
     quiet_fine guest asid memory view.contents part Host (items.Skip count test) deeds.Control (Some (skip_outcome count test part.last)) before refl
-item_fine guest asid guests memory frames view part Firmware (items.Access address op) before owns = misplaced_fine guest asid memory view.contents part Firmware (items.Access address op) before
-item_fine guest asid guests memory frames view part Firmware (items.Pvalidate address size validate) before owns = misplaced_fine guest asid memory view.contents part Firmware (items.Pvalidate address size validate) before
-item_fine guest asid guests memory frames view part Firmware (items.Rmpadjust address size target mask vmsa) before owns = misplaced_fine guest asid memory view.contents part Firmware (items.Rmpadjust address size target mask vmsa) before
-item_fine guest asid guests memory frames view part Firmware (items.Rmpupdate update) before owns = misplaced_fine guest asid memory view.contents part Firmware (items.Rmpupdate update) before
-item_fine guest asid guests memory frames view part Firmware (items.Psmash frame) before owns = misplaced_fine guest asid memory view.contents part Firmware (items.Psmash frame) before
-item_fine guest asid guests memory frames view part Firmware (items.Firmware command) before owns = unbuilt_fine guest asid memory view.contents part Firmware (items.Firmware command) before
-item_fine guest asid guests memory frames view part Firmware (items.Skip count test) before owns =
+item_fine guest asid guests memory frames view part Firmware (items.Access address op) before owns known = misplaced_fine guest asid memory view.contents part Firmware (items.Access address op) before
+item_fine guest asid guests memory frames view part Firmware (items.Pvalidate address size validate) before owns known = misplaced_fine guest asid memory view.contents part Firmware (items.Pvalidate address size validate) before
+item_fine guest asid guests memory frames view part Firmware (items.Rmpadjust address size target mask vmsa) before owns known = misplaced_fine guest asid memory view.contents part Firmware (items.Rmpadjust address size target mask vmsa) before
+item_fine guest asid guests memory frames view part Firmware (items.Rmpupdate update) before owns known = misplaced_fine guest asid memory view.contents part Firmware (items.Rmpupdate update) before
+item_fine guest asid guests memory frames view part Firmware (items.Psmash frame) before owns known = misplaced_fine guest asid memory view.contents part Firmware (items.Psmash frame) before
+item_fine guest asid guests memory frames view part Firmware (items.Firmware command) before owns known = unbuilt_fine guest asid memory view.contents part Firmware (items.Firmware command) before
+item_fine guest asid guests memory frames view part Firmware (items.Skip count test) before owns known =
     quiet_fine guest asid memory view.contents part Firmware (items.Skip count test) deeds.Control (Some (skip_outcome count test part.last)) before refl

@@ -130,6 +130,10 @@ smash_refusal frames frame facts holder =
 abbrev pub smashed_facts : RmpEntry → RmpEntry
 smashed_facts facts = record facts { size = Small }
 
+-- a frame after the commit
+abbrev pub smashed_page : Page → Page
+smashed_page page = record page { facts = smashed_facts page.facts }
+
 -- memory after the commit
 unfoldable pub pages_smashed : PageLock → Pages → Pages
-pages_smashed lock pages = over_lock lock (λ page. record page { facts = smashed_facts page.facts }) pages
+pages_smashed lock pages = over_lock lock smashed_page pages

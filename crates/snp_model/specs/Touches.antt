@@ -10,6 +10,8 @@ use Rattle.snp_model.specs.declared.scenario.Role.TheVariants.{Cpu, Host, Firmwa
 use Rattle.snp_model.specs.declared.walk.Lookup.{Lookup}
 use Rattle.snp_model.specs.declared.walk.Need.{Need}
 use Rattle.snp_model.specs.declared.walk.Need.TheVariants as needs
+use Rattle.snp_model.specs.InstructionStep.{page_lookup}
+use Rattle.snp_model.specs.RmpUpdate.{is_bad_update, is_bad_smash}
 use Rattle.snp_model.specs.State.{PageLock, ActorPart, Contents, View}
 use Rattle.snp_model.specs.Step.{Stepped, line_at}
 use Rattle.snp_model.specs.Walking.{Processor, lookup_of, need_after}
@@ -69,8 +71,10 @@ instruction_touches refused frame (lock ∷ others) = with_locks (lock ∷ other
 unfoldable pub item_touches : ℕ → List GuestSpec → ActorPart → Role → Item → Touched
 item_touches frames guests part (Cpu guest vmpl npt paging) (items.Access address op) =
     walk_touches frames (record { guest = guest; vmpl = vmpl; npt = npt; paging = paging }) (lookup_of address op) part.deeds
-item_touches frames guests part (Cpu guest vmpl npt paging) (items.Pvalidate address size validate) = nothing_touched
-item_touches frames guests part (Cpu guest vmpl npt paging) (items.Rmpadjust address size target mask vmsa) = nothing_touched
+item_touches frames guests part (Cpu guest vmpl npt paging) (items.Pvalidate address size validate) =
+    with_locks part.standing.locks (walk_touches frames (record { guest = guest; vmpl = vmpl; npt = npt; paging = paging }) (page_lookup address) part.deeds)
+item_touches frames guests part (Cpu guest vmpl npt paging) (items.Rmpadjust address size target mask vmsa) =
+    with_locks part.standing.locks (walk_touches frames (record { guest = guest; vmpl = vmpl; npt = npt; paging = paging }) (page_lookup address) part.deeds)
 item_touches frames guests part (Cpu guest vmpl npt paging) (items.Rmpupdate update) = nothing_touched
 item_touches frames guests part (Cpu guest vmpl npt paging) (items.Psmash frame) = nothing_touched
 item_touches frames guests part (Cpu guest vmpl npt paging) (items.Firmware command) = nothing_touched
@@ -78,8 +82,8 @@ item_touches frames guests part (Cpu guest vmpl npt paging) (items.Skip count te
 item_touches frames guests part Host (items.Access address op) = frame_touched (address / 4096)
 item_touches frames guests part Host (items.Pvalidate address size validate) = nothing_touched
 item_touches frames guests part Host (items.Rmpadjust address size target mask vmsa) = nothing_touched
-item_touches frames guests part Host (items.Rmpupdate update) = nothing_touched
-item_touches frames guests part Host (items.Psmash frame) = nothing_touched
+item_touches frames guests part Host (items.Rmpupdate update) = instruction_touches (is_bad_update frames update) update.frame part.standing.locks
+item_touches frames guests part Host (items.Psmash frame) = instruction_touches (is_bad_smash frames frame) frame part.standing.locks
 item_touches frames guests part Host (items.Firmware command) = nothing_touched
 item_touches frames guests part Host (items.Skip count test) = nothing_touched
 item_touches frames guests part Firmware (items.Access address op) = nothing_touched
