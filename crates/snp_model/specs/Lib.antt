@@ -9,6 +9,9 @@ pub mod Entries
 pub mod EventText
 pub mod Facts
 pub mod Faults
+pub mod Firmware
+pub mod FirmwareCommits
+pub mod FirmwareLocks
 pub mod Gcm
 pub mod GuestMemory
 pub mod GuestReads
@@ -19,12 +22,14 @@ pub mod Journal
 pub mod Lines
 pub mod Locks
 pub mod Measurement
+pub mod Metadata
 pub mod NestedReads
 pub mod NestedWalk
 pub mod OpenAttempts
 pub mod Opening
 pub mod Operations
 pub mod Outside
+pub mod PageStates
 pub mod Polynomials
 pub mod Reading
 pub mod RegionWords
