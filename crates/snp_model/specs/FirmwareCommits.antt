@@ -1,82 +1,24 @@
--- What a command of the firmware computes, and what its commit makes of each of its pages and of its guest's context (after the SEV-SNP firmware ABI 56860, chapter 8; what stays and what is zeroed is this project's own).
-use Rattle.std.specs.Prelude.{ℕ, ◌+◌, ◌==◌, Bool, true, false, if◌then◌else◌, List, [], ◌∷◌, replicate, Option, Some, None, Result, Ok, Err}
+-- What the commit of a command of the firmware makes of each of its pages and of its guest's context (after the SEV-SNP firmware ABI 56860, chapter 8; what stays and what is zeroed is this project's own).
+use Rattle.std.specs.Prelude.{ℕ, ◌+◌, ◌==◌, Bool, true, false, if◌then◌else◌, List, [], ◌∷◌, replicate, Option, None}
 use Rattle.snp_model.specs.declared.command.Command.{Command}
 use Rattle.snp_model.specs.declared.command.Command.TheVariants as commands
 use Rattle.snp_model.specs.declared.entry.Kind.TheVariants as kinds
 use Rattle.snp_model.specs.declared.entry.RmpEntry.{RmpEntry}
-use Rattle.snp_model.specs.declared.event.FwRefusal.{FwRefusal}
-use Rattle.snp_model.specs.declared.event.FwRefusal.TheVariants.{Status}
 use Rattle.snp_model.specs.declared.firmware.GuestState.TheVariants.{Init, Launching, Running}
 use Rattle.snp_model.specs.declared.firmware.MetaEntry.{MetaEntry}
 use Rattle.snp_model.specs.declared.firmware.PageState.{PageState}
 use Rattle.snp_model.specs.declared.firmware.PageState.TheVariants as states
-use Rattle.snp_model.specs.Firmware.{invalid_mdata_entry, invalid_page_owner}
 use Rattle.snp_model.specs.Measurement.{digest_after}
-use Rattle.snp_model.specs.Metadata.{SealedPage, owned, sealed_page, sealed_metadata, opened}
 use Rattle.snp_model.specs.PageStates.{state_of}
-use Rattle.snp_model.specs.State.{Page, Context, Computed, zero_words}
+use Rattle.snp_model.specs.State.{Page, Pages, Context, Contexts, zero_words}
 
--- whether a command has a compute, after its locks
-unfoldable pub has_compute : Command → Bool
-has_compute (commands.GctxCreate guest frame) = false
-has_compute (commands.Activate guest asid) = false
-has_compute (commands.LaunchStart guest) = false
-has_compute (commands.LaunchUpdate guest frame page_type imi perms) = false
-has_compute (commands.LaunchFinish guest) = false
-has_compute (commands.MdInit frame) = false
-has_compute (commands.PageMove guest source target) = false
-has_compute (commands.SwapOut guest source target metadata entry) = true
-has_compute (commands.SwapIn guest source target metadata entry) = true
-has_compute (commands.Reclaim frame) = false
-has_compute (commands.MdOut guest source target metadata entry) = true
-has_compute (commands.MdIn guest source target metadata entry) = true
-has_compute (commands.MdRootOut guest source target) = true
-has_compute (commands.MdRootIn guest source target) = true
+-- memory with another page
+unfoldable pub at_frame : ℕ → Page → Pages → Pages
+at_frame frame page pages f = if frame == f then page else pages f
 
--- a page that was sealed, with its entry
-abbrev pub made_of : SealedPage → Computed
-made_of page = record { words = page.words; entry = Some page.entry }
-
--- a page that was opened, with its entry
-abbrev pub opened_page : MetaEntry → Result (List ℕ) FwRefusal → Result Computed FwRefusal
-opened_page entry (Ok words) = Ok (record { words = words; entry = Some entry })
-opened_page entry (Err refusal) = Err refusal
-
--- so a metadata page, whose entries in use have to be the guest's
-unfoldable pub opened_metadata : ℕ → MetaEntry → Result (List ℕ) FwRefusal → Result Computed FwRefusal
-opened_metadata asid entry (Ok words) = if owned words asid then Ok (record { words = words; entry = Some entry }) else Err (Status invalid_page_owner)
-opened_metadata asid entry (Err refusal) = Err refusal
-
--- what the compute of a guest's page opens, by the entry that its lock has found in use
-unfoldable pub page_opened : Context → Option MetaEntry → List ℕ → Result Computed FwRefusal
-page_opened context None words = Err (Status invalid_mdata_entry)
-page_opened context (Some entry) words = opened_page entry (opened context entry words)
-
--- and that of a metadata page
-unfoldable pub metadata_opened : Context → Option MetaEntry → List ℕ → Result Computed FwRefusal
-metadata_opened context None words = Err (Status invalid_mdata_entry)
-metadata_opened context (Some entry) words = opened_metadata context.asid entry (opened context entry words)
-
--- nothing is made
-abbrev pub nothing_made : Computed
-nothing_made = record { words = []; entry = None }
-
--- the compute of a command: what it makes of its source, or what refuses it; `kept` is the entry, or the root, that it opens
-unfoldable pub compute_of : Command → Context → Option MetaEntry → Page → Result Computed FwRefusal
-compute_of (commands.GctxCreate guest frame) context kept source = Ok nothing_made
-compute_of (commands.Activate guest asid) context kept source = Ok nothing_made
-compute_of (commands.LaunchStart guest) context kept source = Ok nothing_made
-compute_of (commands.LaunchUpdate guest frame page_type imi perms) context kept source = Ok nothing_made
-compute_of (commands.LaunchFinish guest) context kept source = Ok nothing_made
-compute_of (commands.MdInit frame) context kept source = Ok nothing_made
-compute_of (commands.PageMove guest from target) context kept source = Ok nothing_made
-compute_of (commands.SwapOut guest from target metadata entry) context kept source = Ok (made_of (sealed_page context source.facts source.words))
-compute_of (commands.SwapIn guest from target metadata entry) context kept source = page_opened context kept source.words
-compute_of (commands.Reclaim frame) context kept source = Ok nothing_made
-compute_of (commands.MdOut guest from target metadata entry) context kept source = Ok (made_of (sealed_metadata context source.words))
-compute_of (commands.MdIn guest from target metadata entry) context kept source = metadata_opened context kept source.words
-compute_of (commands.MdRootOut guest from target) context kept source = Ok (made_of (sealed_metadata context source.words))
-compute_of (commands.MdRootIn guest from target) context kept source = metadata_opened context kept source.words
+-- contexts with another one
+unfoldable pub at_guest : ℕ → Context → Contexts → Contexts
+at_guest guest context contexts g = if guest == g then context else contexts g
 
 -- gctx_create: a Firmware page becomes a Context page; its words stay
 unfoldable pub context_facts : RmpEntry → RmpEntry

@@ -37,6 +37,7 @@ pub mod Report
 pub mod Room
 pub mod Run
 pub mod ScenarioLines
+pub mod Sealing
 pub mod Skips
 pub mod Sound
 pub mod State
