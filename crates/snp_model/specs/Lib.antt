@@ -3,6 +3,7 @@ pub mod Aes
 pub mod AesField
 pub mod Allowed
 pub mod Attempts
+pub mod Bounds
 pub mod CommandLine
 pub mod Ending
 pub mod Entries
@@ -28,6 +29,7 @@ pub mod NestedWalk
 pub mod OpenAttempts
 pub mod Opening
 pub mod Operations
+pub mod Outcomes
 pub mod Outside
 pub mod PageStates
 pub mod Polynomials
