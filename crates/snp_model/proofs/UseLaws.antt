@@ -63,12 +63,16 @@ pub record Fine (asid : ℕ) (memory : Memory) (old new : Contents) (does : Use)
 pub record MoveFine (guest asid : ℕ) (memory : Memory) (old : Contents) (role : Role) (item : Item) (move : Move) : Type 0 where
   pub fine : Fine asid memory old move.contents (use_for guest move.contents role move.deed item move.outcome)
 
--- where an event of a guest's processor does nothing, so for each guest
-untouched_for : (guest : ℕ) (left : Contents) (role : Role) (deed : Deed) (item : Item) (outcome : Option Outcome) → use_of deed item outcome ≡ Untouched → use_for guest left role deed item outcome ≡ Untouched
-unfolding use_for firmware_use
-untouched_for guest left (Cpu owner vmpl npt paging) deed item outcome e = cond_both (eqb owner guest) _ _ (λ (does : Use). does ≡ Untouched) (λ _. e) (λ _. refl)
+-- an event that does nothing, whether it is a guest's processor's or the firmware's
+record IsIdle (deed : Deed) (item : Item) (outcome : Option Outcome) : Type 0 where
+  processors : use_of deed item outcome ≡ Untouched
+  firmware : (guest : ℕ) (left : Contents) → firmware_use guest left deed item outcome ≡ Untouched
+
+untouched_for : (guest : ℕ) (left : Contents) (role : Role) (deed : Deed) (item : Item) (outcome : Option Outcome) → IsIdle deed item outcome → use_for guest left role deed item outcome ≡ Untouched
+unfolding use_for
+untouched_for guest left (Cpu owner vmpl npt paging) deed item outcome e = cond_both (eqb owner guest) _ _ (λ (does : Use). does ≡ Untouched) (λ _. e.processors) (λ _. refl)
 untouched_for guest left Host deed item outcome e = refl
-untouched_for guest left Firmware deed item outcome e = refl
+untouched_for guest left Firmware deed item outcome e = e.firmware guest left
 
 -- an event that changes nothing
 nothing_fine : (asid : ℕ) (memory : Memory) (old : Contents) → Before asid memory old → Fine asid memory old old Untouched
@@ -76,31 +80,31 @@ unfolding used
 nothing_fine asid memory old before = record { legal = tt; core = before.core; whole = before.whole }
 
 quiet_fine : (guest asid : ℕ) (memory : Memory) (old : Contents) (part : ActorPart) (role : Role) (item : Item) (deed : Deed) (outcome : Option Outcome)
-    → Before asid memory old → use_of deed item outcome ≡ Untouched → MoveFine guest asid memory old role item (quiet_move old part deed outcome)
+    → Before asid memory old → IsIdle deed item outcome → MoveFine guest asid memory old role item (quiet_move old part deed outcome)
 quiet_fine guest asid memory old part role item deed outcome before e = record {
   fine = subst (λ (does : Use). Fine asid memory old old does) (sym (untouched_for guest old role deed item outcome e)) (nothing_fine asid memory old before);
 }
 
 unbuilt_fine : (guest asid : ℕ) (memory : Memory) (old : Contents) (part : ActorPart) (role : Role) (item : Item)
     → Before asid memory old → MoveFine guest asid memory old role item (unbuilt_move old part)
-unfolding use_of
-unbuilt_fine guest asid memory old part role item before = quiet_fine guest asid memory old part role item deeds.Control (Some outcomes.Next) before refl
+unfolding use_of firmware_use
+unbuilt_fine guest asid memory old part role item before = quiet_fine guest asid memory old part role item deeds.Control (Some outcomes.Next) before (record { processors = refl; firmware = λ _ _. refl })
 
 misplaced_fine : (guest asid : ℕ) (memory : Memory) (old : Contents) (part : ActorPart) (role : Role) (item : Item)
     → Before asid memory old → MoveFine guest asid memory old role item (misplaced_move old part)
-unfolding use_of
-misplaced_fine guest asid memory old part role item before = quiet_fine guest asid memory old part role item deeds.Control (Some outcomes.Next) before refl
+unfolding use_of firmware_use
+misplaced_fine guest asid memory old part role item before = quiet_fine guest asid memory old part role item deeds.Control (Some outcomes.Next) before (record { processors = refl; firmware = λ _ _. refl })
 
 faulted_fine : (guest asid : ℕ) (memory : Memory) (old : Contents) (part : ActorPart) (role : Role) (item : Item)
     → Before asid memory old → MoveFine guest asid memory old role item (faulted_move old part)
-unfolding use_of
-faulted_fine guest asid memory old part role item before = quiet_fine guest asid memory old part role item deeds.Control (Some outcomes.Next) before refl
+unfolding use_of firmware_use
+faulted_fine guest asid memory old part role item before = quiet_fine guest asid memory old part role item deeds.Control (Some outcomes.Next) before (record { processors = refl; firmware = λ _ _. refl })
 
 begin_fine : (guest asid : ℕ) (memory : Memory) (old : Contents) (part : ActorPart) (role : Role) (item : Item) (context : Context) (levels address : ℕ) (refusal : Option Outcome)
     → Before asid memory old → MoveFine guest asid memory old role item (begin_move old part context levels address refusal)
-unfolding begin_move use_of
+unfolding begin_move use_of firmware_use
 begin_fine guest asid memory old part role item context levels address refusal before =
-    let quiet = λ (outcome : Option Outcome). quiet_fine guest asid memory old part role item deeds.Begin outcome before refl in
+    let quiet = λ (outcome : Option Outcome). quiet_fine guest asid memory old part role item deeds.Begin outcome before (record { processors = refl; firmware = λ _ _. refl }) in
     cond_both (not (is_running context.state)) _ _ (MoveFine guest asid memory old role item) (λ _. quiet (Some outcomes.Offline))
     (λ _. cond_both (not (is_canonical levels address)) _ _ (MoveFine guest asid memory old role item) (λ _. quiet (Some outcomes.Gp)) (λ _. quiet refusal))
 
@@ -232,7 +236,7 @@ private_fine : (guest asid : ℕ) (guests : List GuestSpec) (memory : Memory) (o
     → Before asid memory old → Owns guest asid guests owner → index < 512 → place.asid ≡ asid_of guests owner → place.gpn ≡ gpn
     → private_verdict (old.pages frame).facts place op ≡ verdict
     → MoveFine guest asid memory old (Cpu owner vmpl npt paging) (items.Access address op) (access_move old part (deeds.Access gpn index frame true) verdict op frame index)
-unfolding access_move use_for use_of
+unfolding access_move use_for use_of firmware_use
 private_fine guest asid guests memory old part owner vmpl npt paging address op gpn frame index place Pass before owns below asid_is gpn_is is =
     let facts = (old.pages frame).facts in
     let word = word_of (old.pages frame) index in
@@ -244,10 +248,10 @@ private_fine guest asid guests memory old part owner vmpl npt paging address op 
           (λ different. elsewhere_fine asid memory old op frame index word before (λ q hq. owns.other (eqb-false owner guest different) (sym h.asid_is ∙ hq.asid_is)));
     }
 private_fine guest asid guests memory old part owner vmpl npt paging address op gpn frame index place Hidden before owns below asid_is gpn_is is =
-    quiet_fine guest asid memory old part (Cpu owner vmpl npt paging) (items.Access address op) (deeds.Access gpn index frame true) (Some outcomes.Opaque) before (hidden_quiet op gpn index)
+    quiet_fine guest asid memory old part (Cpu owner vmpl npt paging) (items.Access address op) (deeds.Access gpn index frame true) (Some outcomes.Opaque) before (record { processors = hidden_quiet op gpn index; firmware = λ _ _. refl })
 private_fine guest asid guests memory old part owner vmpl npt paging address op gpn frame index place (Fault outcome) before owns below asid_is gpn_is is =
     quiet_fine guest asid memory old part (Cpu owner vmpl npt paging) (items.Access address op) (deeds.Access gpn index frame true) (Some outcome) before
-    (private_faults (old.pages frame).facts place op outcome gpn index is)
+    (record { processors = private_faults (old.pages frame).facts place op outcome gpn index is; firmware = λ _ _. refl })
 
 -- a host access, by what the RMP says
 host_fine : (guest asid : ℕ) (memory : Memory) (old : Contents) (part : ActorPart) (item : Item) (op : Op) (frame index : ℕ) (verdict : Verdict)
@@ -274,18 +278,18 @@ shared_holds_none facts place (Xor value) e = grind (arith, nat_tests)
 shared_fine : (guest asid : ℕ) (memory : Memory) (old : Contents) (part : ActorPart) (role : Role) (item : Item) (op : Op) (gpn frame index : ℕ) (place : Place) (verdict : Verdict)
     → Before asid memory old → shared_verdict (old.pages frame).facts place op ≡ verdict
     → MoveFine guest asid memory old role item (access_move old part (deeds.Access gpn index frame false) verdict op frame index)
-unfolding access_move use_of
+unfolding access_move use_of firmware_use
 shared_fine guest asid memory old part role item op gpn frame index place Pass before is =
     let word = word_of (old.pages frame) index in
     let deed = deeds.Access gpn index frame false in
     record {
-      fine = subst (Fine asid memory old (record old { pages = pages_after op frame index word old.pages })) (sym (untouched_for guest _ role deed item (Some (outcome_of op word)) refl))
+      fine = subst (Fine asid memory old (record old { pages = pages_after op frame index word old.pages })) (sym (untouched_for guest _ role deed item (Some (outcome_of op word)) (record { processors = refl; firmware = λ _ _. refl })))
           (elsewhere_fine asid memory old op frame index word before (λ q h. true≢false (sym h.assigned ∙ shared_holds_none (old.pages frame).facts place op is)));
     }
 shared_fine guest asid memory old part role item op gpn frame index place Hidden before is =
-    quiet_fine guest asid memory old part role item (deeds.Access gpn index frame false) (Some outcomes.Opaque) before refl
+    quiet_fine guest asid memory old part role item (deeds.Access gpn index frame false) (Some outcomes.Opaque) before (record { processors = refl; firmware = λ _ _. refl })
 shared_fine guest asid memory old part role item op gpn frame index place (Fault outcome) before is =
-    quiet_fine guest asid memory old part role item (deeds.Access gpn index frame false) (Some outcome) before refl
+    quiet_fine guest asid memory old part role item (deeds.Access gpn index frame false) (Some outcome) before (record { processors = refl; firmware = λ _ _. refl })
 
 -- what an item of a guest's processor does at the page that its walks have led to is fine
 abbrev ArrivesFine : ℕ → ℕ → Memory → Contents → Processor → Item → Arrival → Type 0
@@ -308,7 +312,7 @@ table_fine : (guest asid : ℕ) (guests : List GuestSpec) (memory : Memory) (fra
     → Before asid memory old → Owns guest asid guests cpu.guest → place.asid ≡ asid_of guests cpu.guest → place.gpn ≡ gpn
     → private_verdict (old.pages frame).facts place Load ≡ verdict
     → MoveFine guest asid memory old (Cpu cpu.guest cpu.vmpl cpu.npt cpu.paging) item (table_move frames old part cpu lookup verdict gpn index frame)
-unfolding table_move use_for use_of used
+unfolding table_move use_for use_of used firmware_use
 table_fine guest asid guests memory frames old part cpu item lookup Pass gpn index frame place before owns asid_is gpn_is is =
     let facts = (old.pages frame).facts in
     let word = word_of (old.pages frame) index in
@@ -322,17 +326,17 @@ table_fine guest asid guests memory frames old part cpu item lookup Pass gpn ind
           (λ different. nothing_fine asid memory old before);
     }
 table_fine guest asid guests memory frames old part cpu item lookup Hidden gpn index frame place before owns asid_is gpn_is is =
-    quiet_fine guest asid memory old part (Cpu cpu.guest cpu.vmpl cpu.npt cpu.paging) item (deeds.Table gpn index frame None) (Some outcomes.Opaque) before refl
+    quiet_fine guest asid memory old part (Cpu cpu.guest cpu.vmpl cpu.npt cpu.paging) item (deeds.Table gpn index frame None) (Some outcomes.Opaque) before (record { processors = refl; firmware = λ _ _. refl })
 table_fine guest asid guests memory frames old part cpu item lookup (Fault outcome) gpn index frame place before owns asid_is gpn_is is =
-    quiet_fine guest asid memory old part (Cpu cpu.guest cpu.vmpl cpu.npt cpu.paging) item (deeds.Table gpn index frame None) (Some outcome) before refl
+    quiet_fine guest asid memory old part (Cpu cpu.guest cpu.vmpl cpu.npt cpu.paging) item (deeds.Table gpn index frame None) (Some outcome) before (record { processors = refl; firmware = λ _ _. refl })
 
 -- an item of a guest processor that walks
 need_fine : (guest asid : ℕ) (guests : List GuestSpec) (memory : Memory) (frames : ℕ) (old : Contents) (part : ActorPart) (cpu : Processor) (item : Item) (lookup : Lookup) (arrives : Arrival) (need : Need)
     → Before asid memory old → Owns guest asid guests cpu.guest → ArrivesFine guest asid memory old cpu item arrives
     → MoveFine guest asid memory old (Cpu cpu.guest cpu.vmpl cpu.npt cpu.paging) item (need_move frames guests old part cpu lookup arrives need)
-unfolding need_move use_of
+unfolding need_move use_of firmware_use
 need_fine guest asid guests memory frames old part cpu item lookup arrives (needs.Nested frame index) before owns arrived =
-    quiet_fine guest asid memory old part (Cpu cpu.guest cpu.vmpl cpu.npt cpu.paging) item _ _ before refl
+    quiet_fine guest asid memory old part (Cpu cpu.guest cpu.vmpl cpu.npt cpu.paging) item _ _ before (record { processors = refl; firmware = λ _ _. refl })
 need_fine guest asid guests memory frames old part cpu item lookup arrives (needs.Table gpn index frame size) before owns arrived =
     table_fine guest asid guests memory frames old part cpu item lookup _ gpn index frame (table_place (asid_of guests cpu.guest) cpu.vmpl gpn index frame size) before owns refl refl refl
 need_fine guest asid guests memory frames old part cpu item lookup arrives (needs.Data gpn private frame size) before owns arrived = arrived gpn private frame size
@@ -352,7 +356,7 @@ walked_fine guest asid guests memory frames old part cpu item lookup refusal arr
 pub item_fine : (guest asid : ℕ) (guests : List GuestSpec) (memory : Memory) (frames : ℕ) (view : View) (part : ActorPart) (role : Role) (item : Item)
     → Before asid memory view.contents → RoleOwns guest asid guests role
     → MoveFine guest asid memory view.contents role item (item_move frames guests view part role item)
-unfolding item_move host_access use_of
+unfolding item_move host_access use_of firmware_use
 item_fine guest asid guests memory frames view part (Cpu owner vmpl npt paging) (items.Access address op) before owns =
     let cpu : Processor = record { guest = owner; vmpl = vmpl; npt = npt; paging = paging } in
     walked_fine guest asid guests memory frames view.contents part cpu (items.Access address op) (lookup_of address op) None _ part.deeds before owns (data_fine guest asid guests memory view.contents part cpu address op before owns)
@@ -362,7 +366,7 @@ item_fine guest asid guests memory frames view part (Cpu owner vmpl npt paging) 
 item_fine guest asid guests memory frames view part (Cpu owner vmpl npt paging) (items.Psmash frame) before owns = misplaced_fine guest asid memory view.contents part (Cpu owner vmpl npt paging) (items.Psmash frame) before
 item_fine guest asid guests memory frames view part (Cpu owner vmpl npt paging) (items.Firmware command) before owns = misplaced_fine guest asid memory view.contents part (Cpu owner vmpl npt paging) (items.Firmware command) before
 item_fine guest asid guests memory frames view part (Cpu owner vmpl npt paging) (items.Skip count test) before owns =
-    quiet_fine guest asid memory view.contents part (Cpu owner vmpl npt paging) (items.Skip count test) deeds.Control (Some (skip_outcome count test part.last)) before refl
+    quiet_fine guest asid memory view.contents part (Cpu owner vmpl npt paging) (items.Skip count test) deeds.Control (Some (skip_outcome count test part.last)) before (record { processors = refl; firmware = λ _ _. refl })
 item_fine guest asid guests memory frames view part Host (items.Access address op) before owns =
     host_fine guest asid memory view.contents part (items.Access address op) op (address / 4096) (index_of address) _ before refl
 item_fine guest asid guests memory frames view part Host (items.Pvalidate address size validate) before owns = misplaced_fine guest asid memory view.contents part Host (items.Pvalidate address size validate) before
@@ -371,7 +375,7 @@ item_fine guest asid guests memory frames view part Host (items.Rmpupdate update
 item_fine guest asid guests memory frames view part Host (items.Psmash frame) before owns = unbuilt_fine guest asid memory view.contents part Host (items.Psmash frame) before
 item_fine guest asid guests memory frames view part Host (items.Firmware command) before owns = misplaced_fine guest asid memory view.contents part Host (items.Firmware command) before
 item_fine guest asid guests memory frames view part Host (items.Skip count test) before owns =
-    quiet_fine guest asid memory view.contents part Host (items.Skip count test) deeds.Control (Some (skip_outcome count test part.last)) before refl
+    quiet_fine guest asid memory view.contents part Host (items.Skip count test) deeds.Control (Some (skip_outcome count test part.last)) before (record { processors = refl; firmware = λ _ _. refl })
 item_fine guest asid guests memory frames view part Firmware (items.Access address op) before owns = misplaced_fine guest asid memory view.contents part Firmware (items.Access address op) before
 item_fine guest asid guests memory frames view part Firmware (items.Pvalidate address size validate) before owns = misplaced_fine guest asid memory view.contents part Firmware (items.Pvalidate address size validate) before
 item_fine guest asid guests memory frames view part Firmware (items.Rmpadjust address size target mask vmsa) before owns = misplaced_fine guest asid memory view.contents part Firmware (items.Rmpadjust address size target mask vmsa) before
@@ -379,4 +383,4 @@ item_fine guest asid guests memory frames view part Firmware (items.Rmpupdate up
 item_fine guest asid guests memory frames view part Firmware (items.Psmash frame) before owns = misplaced_fine guest asid memory view.contents part Firmware (items.Psmash frame) before
 item_fine guest asid guests memory frames view part Firmware (items.Firmware command) before owns = unbuilt_fine guest asid memory view.contents part Firmware (items.Firmware command) before
 item_fine guest asid guests memory frames view part Firmware (items.Skip count test) before owns =
-    quiet_fine guest asid memory view.contents part Firmware (items.Skip count test) deeds.Control (Some (skip_outcome count test part.last)) before refl
+    quiet_fine guest asid memory view.contents part Firmware (items.Skip count test) deeds.Control (Some (skip_outcome count test part.last)) before (record { processors = refl; firmware = λ _ _. refl })
