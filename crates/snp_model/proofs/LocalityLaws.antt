@@ -28,7 +28,8 @@ use Rattle.snp_model.specs.Opening.{asid_of}
 use Rattle.snp_model.specs.Operations.{outcome_of, word_after}
 use Rattle.snp_model.specs.Verdicts.{private_verdict, host_verdict}
 use Rattle.snp_model.specs.State.{Page, Pages, Context, Contents, ActorPart, View, with_word, word_of}
-use Rattle.snp_model.specs.Step.{Move, Arrival, quiet_move, unbuilt_move, misplaced_move, faulted_move, pages_after, access_move, table_word, is_running, begin_move, walk_move, table_move, need_move, walked_move, data_move, data_place, table_place, host_access, skip_move, item_move, line_at, part_after, step_of}
+use Rattle.snp_model.specs.Moves.{Move, Arrival, quiet_move, unbuilt_move, misplaced_move, faulted_move, table_word, is_running, begin_move, walk_move, table_move, need_move, walked_move, table_place}
+use Rattle.snp_model.specs.Step.{pages_after, access_move, data_move, data_place, host_access, skip_move, item_move, line_at, part_after, step_of}
 use Rattle.snp_model.specs.Touches.{Touched, nothing_touched, frame_touched, context_touched, need_touches, walk_touches, item_touches, touches, touches_frame, AgreeOn, AgreeBeside, SeeAlike, StepsAlike}
 
 -- two moves are the same, and leave what is touched the same

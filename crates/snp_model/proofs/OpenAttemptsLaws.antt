@@ -26,7 +26,8 @@ use Rattle.snp_model.specs.OpenAttempts.{CallsFor, AreCalledFor, IsWalk, IsAttem
 use Rattle.snp_model.specs.Opening.{opening, opening_part}
 use Rattle.snp_model.specs.Run.{state_from, state_after, IsDefinedFrom, IsDefined}
 use Rattle.snp_model.specs.State.{ActorPart, Context, Contents, State, View, part_of, idle_part, IsUnfinished, word_of}
-use Rattle.snp_model.specs.Step.{Move, Arrival, step_of, after, part_after, item_move, line_at, is_running, access_move, begin_move, table_word, table_move, need_move, walked_move, data_move, host_access, event_of}
+use Rattle.snp_model.specs.Moves.{Move, Arrival, is_running, begin_move, table_word, table_move, need_move, walked_move}
+use Rattle.snp_model.specs.Step.{step_of, after, part_after, item_move, line_at, access_move, data_move, host_access, event_of}
 use Rattle.snp_model.specs.Walking.{Processor, lookup_of, need_after}
 use Rattle.snp_model.proofs.RunLaws.{unfinished_at}
 

@@ -35,7 +35,8 @@ use Rattle.snp_model.specs.declared.scenario.Paging.{Paging}
 use Rattle.snp_model.specs.declared.scenario.Paging.TheVariants.{Flat, Four, Five}
 use Rattle.snp_model.specs.declared.scenario.Role.{Role}
 use Rattle.snp_model.specs.declared.scenario.Role.TheVariants.{Cpu, Host, Firmware}
-use Rattle.snp_model.specs.Step.{Position, Move, Arrival, step_of, after, part_after, position_after, tries_again, passed_over, item_move, line_at, is_running, quiet_move, unbuilt_move, misplaced_move, faulted_move, access_move, begin_move, table_move, need_move, walked_move, data_move, host_access, table_word}
+use Rattle.snp_model.specs.Moves.{Move, Arrival, is_running, quiet_move, unbuilt_move, misplaced_move, faulted_move, begin_move, table_move, need_move, walked_move, table_word}
+use Rattle.snp_model.specs.Step.{Position, step_of, after, part_after, position_after, tries_again, passed_over, item_move, line_at, access_move, data_move, host_access}
 use Rattle.snp_model.specs.Outcomes.{is_in_use}
 use Rattle.snp_model.specs.GuestWalk.{levels_of, is_canonical, is_private_leaf, gpn_below, guest_fault, after_guest_word, guest_walk_from, first_guest_read, guest_end}
 use Rattle.snp_model.specs.Walking.{Processor, lookup_of, counting, guest_words, nested_words_after, nested_words, guest_path, guest_stands, table_path, data_path, table_need, data_need, walk_need, need_after, index_of}

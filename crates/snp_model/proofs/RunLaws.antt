@@ -7,7 +7,8 @@ use Rattle.snp_model.specs.declared.event.Outcome.{Outcome}
 use Rattle.snp_model.specs.declared.item.Line.{Line}
 use Rattle.snp_model.specs.State.{ActorPart, State, part_of, idle_part, IsUnfinished}
 use Rattle.snp_model.specs.Locks.{view_of}
-use Rattle.snp_model.specs.Step.{Position, Move, step_of, event_of, after, part_after, position_after, tries_again, item_move, line_at}
+use Rattle.snp_model.specs.Moves.{Move}
+use Rattle.snp_model.specs.Step.{Position, step_of, event_of, after, part_after, position_after, tries_again, item_move, line_at}
 use Rattle.snp_model.specs.Run.{run_from, state_from, IsDefinedFrom}
 
 -- a run under a schedule in two parts

@@ -29,7 +29,8 @@ use Rattle.snp_model.specs.Operations.{outcome_of}
 use Rattle.snp_model.specs.Skips.{skip_outcome}
 use Rattle.snp_model.specs.Verdicts.{private_verdict, private_refusal, shared_verdict, host_verdict, is_large, lacks}
 use Rattle.snp_model.specs.State.{Pages, Context, Contents, ActorPart, View, word_of}
-use Rattle.snp_model.specs.Step.{Move, Arrival, item_move, is_running, quiet_move, unbuilt_move, misplaced_move, faulted_move, access_move, pages_after, begin_move, table_move, need_move, walked_move, data_move, host_access, data_place, table_place}
+use Rattle.snp_model.specs.Moves.{Move, Arrival, is_running, quiet_move, unbuilt_move, misplaced_move, faulted_move, begin_move, table_move, need_move, walked_move, table_place}
+use Rattle.snp_model.specs.Step.{item_move, access_move, pages_after, data_move, host_access, data_place}
 use Rattle.snp_model.specs.GuestMemory.{Memory, Use, Untouched, use_of_word, use_of, firmware_use, use_for, IsLegalUse, used}
 use Rattle.snp_model.specs.Holders.{InFrame, IsHeldAs, Core}
 use Rattle.snp_model.proofs.CoreLaws.{with_word_length, core_writes_elsewhere, core_may_read, core_reads, core_writes}

@@ -24,6 +24,7 @@ pub mod Lines
 pub mod Locks
 pub mod Measurement
 pub mod Metadata
+pub mod Moves
 pub mod NestedReads
 pub mod NestedWalk
 pub mod OpenAttempts

@@ -11,7 +11,8 @@ use Rattle.snp_model.specs.declared.walk.Lookup.{Lookup}
 use Rattle.snp_model.specs.declared.walk.Need.TheVariants as needs
 use Rattle.snp_model.specs.GuestWalk.{levels_of, is_canonical}
 use Rattle.snp_model.specs.State.{ActorPart, Contents, State, word_of}
-use Rattle.snp_model.specs.Step.{line_at, table_word}
+use Rattle.snp_model.specs.Moves.{table_word}
+use Rattle.snp_model.specs.Step.{line_at}
 use Rattle.snp_model.specs.Walking.{Processor, lookup_of, need_after}
 
 -- after some deeds an item calls for this one: a read of the word that it then needs
