@@ -20,7 +20,8 @@ use Rattle.snp_model.specs.declared.scenario.Role.TheVariants.{Cpu, Host, Firmwa
 use Rattle.snp_model.specs.declared.scenario.Scenario.{Scenario}
 use Rattle.snp_model.specs.State.{Contents, State, part_of, zero_words}
 use Rattle.snp_model.specs.Step.{event_of, after, line_at}
-use Rattle.snp_model.specs.Opening.{frames_in, opening, words_from}
+use Rattle.snp_model.specs.Facts.{frames_in}
+use Rattle.snp_model.specs.Opening.{opening, words_from}
 use Rattle.snp_model.specs.Verdicts.{is_large}
 
 -- a page of it: 512 places, each with a number, or unknown
