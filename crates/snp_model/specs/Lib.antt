@@ -10,6 +10,7 @@ pub mod Entries
 pub mod EventText
 pub mod Facts
 pub mod Faults
+pub mod Findings
 pub mod Firmware
 pub mod FirmwareCommits
 pub mod FirmwareLocks
@@ -35,6 +36,7 @@ pub mod Outside
 pub mod PageStates
 pub mod Polynomials
 pub mod Reading
+pub mod Ready
 pub mod RegionWords
 pub mod Report
 pub mod RmpUpdate
@@ -46,6 +48,7 @@ pub mod Skips
 pub mod Sound
 pub mod State
 pub mod Step
+pub mod Texts
 pub mod Touches
 pub mod Validation
 pub mod Verdicts
