@@ -22,6 +22,7 @@ pub mod Holders
 pub mod ItemLines
 pub mod Journal
 pub mod Lines
+pub mod Live
 pub mod Locks
 pub mod Measurement
 pub mod Metadata
