@@ -7,6 +7,7 @@ pub mod GuestMemoryLaws
 pub mod GuestReadsLaws
 pub mod LocalityLaws
 pub mod MemoryLaws
+pub mod MoveLocality
 pub mod NestedReadsLaws
 pub mod OpenAttemptsLaws
 pub mod OpeningLaws

@@ -19,6 +19,7 @@ pub mod GuestMemory
 pub mod GuestReads
 pub mod GuestWalk
 pub mod Holders
+pub mod InstructionStep
 pub mod ItemLines
 pub mod Journal
 pub mod Lines

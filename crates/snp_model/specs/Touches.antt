@@ -1,6 +1,6 @@
 -- Which regions of memory, and which guest's context, the next event of an actor may read or write. It is told by the actor's own part, the size of memory and the declared guests alone. This project's own.
-use Rattle.std.specs.Prelude.{◌≡◌, ℕ, ◌/◌, ◌==◌, Bool, true, false, List, [], ◌∷◌, Option, Some, None}
-use Rattle.std.specs.List.{list_any}
+use Rattle.std.specs.Prelude.{◌≡◌, ℕ, ◌+◌, ◌-◌, ◌/◌, ◌==◌, if◌then◌else◌, ◌++◌, Bool, true, false, List, [], ◌∷◌, Option, Some, None}
+use Rattle.std.specs.List.{list_any, range_with_len}
 use Rattle.snp_model.specs.declared.event.Deed.{Deed}
 use Rattle.snp_model.specs.declared.item.Item.{Item}
 use Rattle.snp_model.specs.declared.item.Item.TheVariants as items
@@ -10,7 +10,7 @@ use Rattle.snp_model.specs.declared.scenario.Role.TheVariants.{Cpu, Host, Firmwa
 use Rattle.snp_model.specs.declared.walk.Lookup.{Lookup}
 use Rattle.snp_model.specs.declared.walk.Need.{Need}
 use Rattle.snp_model.specs.declared.walk.Need.TheVariants as needs
-use Rattle.snp_model.specs.State.{ActorPart, Contents, View}
+use Rattle.snp_model.specs.State.{PageLock, ActorPart, Contents, View}
 use Rattle.snp_model.specs.Step.{Stepped, line_at}
 use Rattle.snp_model.specs.Walking.{Processor, lookup_of, need_after}
 
@@ -46,6 +46,24 @@ need_touches (needs.Fault outcome) = nothing_touched
 unfoldable pub walk_touches : ℕ → Processor → Lookup → List Deed → Touched
 walk_touches frames cpu lookup [] = context_touched cpu.guest
 walk_touches frames cpu lookup (deed ∷ others) = need_touches (need_after frames cpu lookup (deed ∷ others))
+
+-- the regions of a lock's range, from that of its first frame to that of its last
+abbrev pub lock_regions : PageLock → List ℕ
+lock_regions lock = range_with_len (region_of lock.base) (region_of (lock.base + lock.count - 1) - region_of lock.base + 1)
+
+-- of several locks
+unfoldable pub locks_regions : List PageLock → List ℕ
+locks_regions [] = []
+locks_regions (lock ∷ locks) = lock_regions lock ++ locks_regions locks
+
+-- what is touched by an event that may also release these locks
+abbrev pub with_locks : List PageLock → Touched → Touched
+with_locks locks touched = record { regions = touched.regions ++ locks_regions locks; context = touched.context }
+
+-- a lock that is asked for touches its frame, and its commit what is locked; what is refused before any entry is looked at touches nothing
+unfoldable pub instruction_touches : Bool → ℕ → List PageLock → Touched
+instruction_touches refused frame [] = if refused then nothing_touched else frame_touched frame
+instruction_touches refused frame (lock ∷ others) = with_locks (lock ∷ others) (frame_touched frame)
 
 -- the next event of an item, by the role of its actor
 unfoldable pub item_touches : ℕ → List GuestSpec → ActorPart → Role → Item → Touched

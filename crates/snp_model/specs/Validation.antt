@@ -39,10 +39,9 @@ validated_facts validate own facts =
     if carry validate own then facts
     else record facts { validated = validate }
 
--- memory after the commit: the whole page changes
-unfoldable pub pages_validated : Bool → PageLock → Pages → Pages
-pages_validated validate lock pages =
-    over_lock lock (λ page. record page { facts = validated_facts validate (pages lock.frame).facts page.facts }) pages
+-- memory after the commit, by the facts of the walk's frame: the whole page changes
+unfoldable pub pages_validated : Bool → RmpEntry → PageLock → Pages → Pages
+pages_validated validate own lock pages = over_lock lock (λ page. record page { facts = validated_facts validate own page.facts }) pages
 
 -- RMPADJUST
 
