@@ -14,6 +14,7 @@ pub mod Findings
 pub mod Firmware
 pub mod FirmwareCommits
 pub mod FirmwareLocks
+pub mod FirmwareStep
 pub mod Gcm
 pub mod GuestMemory
 pub mod GuestReads
