@@ -7,8 +7,6 @@ use Rattle.snp_model.specs.declared.event.Deed.{Deed}
 use Rattle.snp_model.specs.declared.item.Item.{Item}
 use Rattle.snp_model.specs.declared.item.Item.TheVariants.{Access}
 use Rattle.snp_model.specs.declared.item.Op.{Op}
-use Rattle.snp_model.specs.declared.scenario.Paging.{Paging}
-use Rattle.snp_model.specs.declared.scenario.Paging.TheVariants.{Flat, Four}
 use Rattle.snp_model.specs.declared.scenario.Role.{Role}
 use Rattle.snp_model.specs.declared.scenario.Role.TheVariants.{Cpu, Host}
 use Rattle.snp_model.specs.declared.walk.NestedPath.{NestedPath}
@@ -18,13 +16,8 @@ use Rattle.snp_model.specs.declared.walk.GuestEnd.{GuestEnd}
 use Rattle.snp_model.specs.declared.walk.GuestEnd.TheVariants as guest_ends
 use Rattle.snp_model.specs.declared.walk.Need.{Need}
 use Rattle.snp_model.specs.declared.walk.Need.TheVariants as needs
-use Rattle.snp_model.specs.GuestWalk.{is_canonical}
 use Rattle.snp_model.specs.NestedWalk.{after_word, first_read, walk_from}
-use Rattle.snp_model.specs.OpenAttempts.{IsAccess}
-use Rattle.snp_model.specs.Sound.{IsPaging}
 use Rattle.snp_model.specs.Walking.{Processor, table_path, data_path, table_need, data_need, walk_need, need_after}
-use Rattle.snp_model.proofs.OpenAttemptsLaws.{access_canonical}
-use Rattle.machine_core.specs.Walks.{IsWalkable}
 use Rattle.snp_model.specs.State.{ActorPart}
 use Rattle.snp_model.specs.Step.{line_at}
 use Rattle.snp_model.specs.Touches.{Touched, context_part, cpu_touches, frame_part, item_touches, need_touches, no_part, region_of, touches, touches_frame}
@@ -56,14 +49,6 @@ pub need_has : (frames : ℕ) (cpu : Processor) (address : ℕ) (op : Op) (made 
 unfolding cpu_touches
 need_has frames cpu address op [] bays begun has = absurd (begun refl)
 need_has frames cpu address op (deed ∷ deeds) bays begun has = has
-
--- and its address is canonical, if it has guest tables
-walkable : (paging : Paging) (address : ℕ) → IsPaging paging → is_canonical address ≡ true → IsWalkable paging address
-walkable Flat address paging is = tt
-walkable (Four root) address paging is = (paging, is)
-
-pub access_walkable : (frames : ℕ) (cpu : Processor) (address : ℕ) (op : Op) (made : List Deed) → (length made ≡ 0 → ⊥) → IsPaging cpu.paging → IsAccess frames cpu address op made → IsWalkable cpu.paging address
-access_walkable frames cpu address op made begun paging is = walkable cpu.paging address paging (access_canonical frames cpu address op made begun is)
 
 -- the regions of what is touched are among so many
 abbrev AreAmong : ℕ → Touched → Type 0

@@ -1,15 +1,18 @@
-ghost use Rattle.std.specs.Prelude.{◌≡◌, ◌++◌, ◌∷◌, [], ◌+◌, ◌<◌, ◌≤◌, ◌^◌, ◌==◌, nat_le, length, None, IfOk, IsNone};
+ghost use Rattle.std.specs.Prelude.{◌≡◌, ◌++◌, ◌∷◌, [], ◌+◌, ◌<◌, ◌≤◌, ◌^◌, ◌==◌, nat_le, true, length, None, IfOk, IsNone};
 ghost use Rattle.snp_model.specs.Opening.{opening_part};
 ghost use Rattle.snp_model.specs.Step.{line_at, passed_over, tries_again, last_after, part_after};
 ghost use Rattle.snp_model.specs.declared.event.Event.{Event};
 ghost use Rattle.snp_model.specs.State.{Contents};
 ghost use Rattle.snp_model.specs.Walking.{guest_words, nested_words};
+ghost use Rattle.machine_core.specs.Actors.{IsBegun, is_nested_read};
 ghost use Rattle.machine_core.specs.Moves.{move_by};
+ghost use Rattle.machine_core.specs.Walks.{IsGuestInside, IsPagingRole, stands_of};
 
 use crate::shown::Shown;
+use crate::walking::item_stands;
 use crate::words::Words;
 use arrayvec::ArrayVec;
-use snp_model::{Actor, Deed, Event, Line, Listed, Outcome, Role};
+use snp_model::{Actor, Deed, Event, GuestEnd, Item, Line, Listed, Outcome, Role};
 use std::alloc::{AllocError, Global};
 use std::marker::Model;
 
@@ -22,6 +25,8 @@ pub struct ActorState {
     attempt: u32,
     deeds: ArrayVec<Deed, 32>,
     words: Words,
+    // Where the guest walk of the open attempt stands.
+    stands: GuestEnd,
     last: Option<Outcome>,
 }
 
@@ -34,12 +39,11 @@ impl Model for ActorState {
 
     ghost view = { λ a. record { role = a.role; script = a.script; item = a.item; attempt = a.attempt; deeds = a.deeds.items; locks = []; context_lock = None; computed = None; last = a.last } };
 
-    ghost invariant = { λ a. IsActorState a.script a.deeds.items a.words.guest.items a.words.nested.items };
+    ghost invariant = { λ a. IsActorState a.role a.script a.item a.deeds.items a.words.guest.items a.words.nested.items a.stands };
 }
 
 impl ActorState {
     /// An actor before its first item.
-    #[tactic(auto, using(crate::proofs::ActorLaws::actor_anew))]
     pub fn new(alloc: Global, actor: &Actor) -> Result<ActorState, AllocError>
         requires { length actor.now.script < 2 ^ 32 }
         ensures { IfOk result (λ part. part ≡ opening_part actor.now) }
@@ -51,6 +55,7 @@ impl ActorState {
             attempt: 0,
             deeds: ArrayVec::new(),
             words: Words::new(),
+            stands: GuestEnd::Fault(0),
             last: None,
         })
     }
@@ -83,6 +88,14 @@ impl ActorState {
         self.words.nested.as_slice()
     }
 
+    /// Where the guest walk of the open attempt stands.
+    pub fn guest_stands(&self) -> GuestEnd
+        ensures stands { IsBegun self.now.deeds → result ≡ stands_of self.now.role (line_at self.now.script self.now.item).item (guest_words self.now.deeds) }
+        ensures inside { IsGuestInside result }
+    {
+        self.stands
+    }
+
     /// The last outcome that isn't of a skip.
     pub fn last(&self) -> Option<Outcome>
         ensures { result ≡ self.now.last }
@@ -102,27 +115,33 @@ impl ActorState {
         requires { self.now.item < length self.now.script }
         ensures { result ≡ line_at self.now.script self.now.item }
     {
-        let script = self.script.as_slice();
-        script[self.item]
+        *line_at(&self.script, self.item)
     }
 
     // One more deed of the open attempt.
     #[tactic(auto, using(crate::proofs::ActorLaws::actor_keeps))]
     fn keep(&mut self, deed: Deed)
-        requires { length self.old.deeds < 32 }
+        requires role { IsPagingRole self.old.role }
+        requires unfinished { self.old.item < length self.old.script }
+        requires room { length self.old.deeds < 32 }
         ensures { self.new ≡ record self.old { deeds = self.old.deeds ++ deed ∷ [] } }
     {
+        let stays = !self.deeds.is_empty() && is_nested_read(&deed);
         self.words.read(&deed);
         self.deeds.push(deed);
+        let line = line_at(&self.script, self.item);
+        let words = self.words.guest.as_slice();
+        self.stands = stands_with(&self.role, &line.item, words, self.stands, stays);
     }
 
     /// Takes down what an event shows, and gives the event.
-    #[tactic(auto, using(crate::proofs::ActorLaws::actor_anew), unfolding(snp_model::specs::Step::part_after, snp_model::specs::Step::position_after))]
-    pub fn take_down(&mut self, shown: Shown) -> Event
+    #[tactic(auto, unfolding(snp_model::specs::Step::part_after, snp_model::specs::Step::position_after))]
+    pub fn take_down(&mut self, shown: &Shown) -> Event
+        requires role { IsPagingRole self.old.role }
         requires unfinished { self.old.item < length self.old.script }
-        requires room { IsNone shown.outcome → length self.old.deeds < 32 }
-        ensures event { result ≡ record { item = self.old.item; attempt = self.old.attempt; deed = shown.deed; outcome = shown.outcome } }
-        ensures part { (contents : Contents) → self.new ≡ part_after self.old (move_by shown contents self.old) shown.outcome }
+        requires room { IsNone shown.now.outcome → length self.old.deeds < 32 }
+        ensures event { result ≡ record { item = self.old.item; attempt = self.old.attempt; deed = shown.now.deed; outcome = shown.now.outcome } }
+        ensures part { (contents : Contents) → self.new ≡ part_after self.old (move_by shown.now contents self.old) shown.now.outcome }
     {
         let event = Event {
             item: self.item as u32,
@@ -146,6 +165,48 @@ impl ActorState {
             }
         }
         event
+    }
+}
+
+// The line at a place of a script.
+fn line_at(script: &Listed<Line>, item: usize) -> &Line
+    requires { item < length script.now }
+    ensures { result.now ≡ line_at script.now item }
+{
+    &script.as_slice()[item]
+}
+
+// Whether a deed reads a word of a nested table, which leaves the guest walk where it stands.
+fn is_nested_read(deed: &Deed) -> bool
+    ensures { result ≡ is_nested_read deed.now }
+{
+    match deed {
+        Deed::Nested { .. } => true,
+        Deed::Begin
+        | Deed::Table { .. }
+        | Deed::Access { .. }
+        | Deed::Host { .. }
+        | Deed::Lock { .. }
+        | Deed::LockContext { .. }
+        | Deed::Compute
+        | Deed::Commit { .. }
+        | Deed::CommitContext { .. }
+        | Deed::Control => false,
+    }
+}
+
+// Where a guest walk stands that has read these words: where it stood, if it stays there.
+fn stands_with(role: &Role, item: &Item, words: &[u64], stood: GuestEnd, stays: bool) -> GuestEnd
+    requires role { IsPagingRole role.now }
+    requires inside { IsGuestInside stood }
+    requires stays { stays ≡ true → stood ≡ stands_of role.now item.now words.now }
+    ensures stands { result ≡ stands_of role.now item.now words.now }
+    ensures inside { IsGuestInside result }
+{
+    if stays {
+        stood
+    } else {
+        item_stands(role, item, words)
     }
 }
 

@@ -3,7 +3,6 @@ ghost use Rattle.snp_model.specs.declared.event.Deed.TheVariants.{Access, Nested
 ghost use Rattle.snp_model.specs.declared.item.Op.TheVariants.{Load};
 ghost use Rattle.snp_model.specs.declared.scenario.GuestSpec.{GuestSpec};
 ghost use Rattle.snp_model.specs.Accesses.{IsPlace, guest_verdict};
-ghost use Rattle.snp_model.specs.OpenAttempts.{IsAccess};
 ghost use Rattle.snp_model.specs.Opening.{asid_of, opening_contexts};
 ghost use Rattle.snp_model.specs.Sound.{IsPaging};
 ghost use Rattle.snp_model.specs.State.{ActorPart, Contents, word_of};
@@ -11,15 +10,16 @@ ghost use Rattle.snp_model.specs.Step.{is_running, data_place, table_place, tabl
 ghost use Rattle.snp_model.specs.Touches.{cpu_touches};
 ghost use Rattle.snp_model.specs.Verdicts.{private_verdict};
 ghost use Rattle.snp_model.specs.Walking.{index_of, guest_words, nested_words, guest_stands, walk_need, need_after, fault_of};
+ghost use Rattle.machine_core.specs.Actors.{IsBegun};
 ghost use Rattle.machine_core.specs.Bays.{HasTouched, contents_of, pages_of};
 ghost use Rattle.machine_core.specs.Moves.{move_by, processor_of, table_load, table_shown};
-ghost use Rattle.machine_core.specs.Walks.{IsWalkable, IsGuestInside, IsReading};
+ghost use Rattle.machine_core.specs.Walks.{IsGuestInside, IsReading};
 
 use crate::actor::ActorState;
 use crate::changes::{guest_access, guest_table_word, table_word};
 use crate::parts::Parts;
 use crate::shown::Shown;
-use crate::walking::{fault_by_nested, fault_by_table, guest_stands, walk_need};
+use crate::walking::{fault_by_nested, fault_by_table, walk_need};
 use guest_walk::is_canonical;
 use snp_model::{Deed, GuestEnd, GuestSpec, Need, Op, Outcome, PageSize, Paging, Place};
 
@@ -91,6 +91,7 @@ fn begin(guests: &[GuestSpec], guest: u8, address: u64) -> Shown
 }
 
 // The event of reading a word of a nested table.
+#[inline(never)]
 #[tactic(auto, using(crate::proofs::CpuLaws::nested_read_more))]
 fn read_nested<P: Parts>(
     parts: &P,
@@ -124,6 +125,7 @@ fn read_nested<P: Parts>(
 }
 
 // The event of reading a word of a guest table, with its check.
+#[inline(never)]
 #[tactic(auto, using(crate::proofs::CpuLaws::table_read_more))]
 fn read_table<P: Parts>(
     parts: &P,
@@ -132,7 +134,7 @@ fn read_table<P: Parts>(
     place: &Place,
     frame: u32,
 ) -> Shown
-    requires paging { IsWalkable access.now.cpu.paging access.now.address }
+    requires paging { IsPaging access.now.cpu.paging }
     requires has { IsSome (P.bays parts.now (frame / 512)) }
     requires place { IsPlace place.now }
     requires slot { place.now.slot ≡ frame % 512 }
@@ -226,6 +228,7 @@ fn data_place(
 }
 
 // The event of the access itself, at the frame that its walks have come to.
+#[inline(never)]
 fn reach<P: Parts>(parts: &mut P, place: &Place, frame: u32, op: &Op) -> Shown
     requires has { IsSome (P.bays parts.old (frame / 512)) }
     requires place { IsPlace place.now }
@@ -251,12 +254,14 @@ pub fn cpu_access<P: Parts>(
     guests: &[GuestSpec],
     part: &ActorState,
     access: &GuestAccess,
+    stands: GuestEnd,
 ) -> Shown
     requires guest { 0 < access.now.cpu.guest }
     requires vmpl { access.now.cpu.vmpl < 4 }
     requires npt { access.now.cpu.npt < frames }
     requires paging { IsPaging access.now.cpu.paging }
-    requires walking { IsAccess frames (processor_of access.now.cpu) access.now.address access.now.op part.now.deeds }
+    requires stands { IsBegun part.now.deeds → stands ≡ guest_stands access.now.cpu.paging access.now.address access.now.op (guest_words part.now.deeds) }
+    requires inside { IsGuestInside stands }
     requires has { HasTouched (cpu_touches frames (processor_of access.now.cpu) access.now.address access.now.op part.now.deeds) (P.bays parts.old) }
     ensures moves { cpu_access frames guests.now (contents_of (P.bays parts.old) guests.now) part.now (processor_of access.now.cpu) access.now.address access.now.op part.now.deeds ≡ move_by result (contents_of (P.bays parts.new) guests.now) part.now }
     ensures kept { P.kept parts.old parts.new }
@@ -265,7 +270,6 @@ pub fn cpu_access<P: Parts>(
     if part.deeds().is_empty() {
         return begin(guests, cpu.guest, access.address);
     }
-    let stands = guest_stands(cpu.paging, access.address, &access.op, part.guest_words());
     match walk_need(frames, cpu.npt, &access.op, stands, part.nested_words()) {
         Need::Nested { frame, index } => {
             read_nested(parts, frames, part, access, stands, frame, index)

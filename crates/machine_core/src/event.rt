@@ -1,12 +1,14 @@
 ghost use Rattle.std.specs.Prelude.{◌≡◌, ◌<◌, List, length};
 ghost use Rattle.snp_model.specs.declared.scenario.GuestSpec.{GuestSpec};
 ghost use Rattle.snp_model.specs.declared.scenario.Role.TheVariants.{Cpu, Host, Firmware};
-ghost use Rattle.snp_model.specs.OpenAttempts.{IsAttempt, IsWalking};
 ghost use Rattle.snp_model.specs.Room.{IsBounded};
 ghost use Rattle.snp_model.specs.Step.{item_move, line_at, step_of};
 ghost use Rattle.snp_model.specs.Touches.{item_touches};
+ghost use Rattle.snp_model.specs.Walking.{guest_words};
+ghost use Rattle.machine_core.specs.Actors.{IsBegun};
 ghost use Rattle.machine_core.specs.Bays.{HasAll, HasTouched, contents_of};
 ghost use Rattle.machine_core.specs.Moves.{move_by, view_on, IsSoundPart, IsSoundRole, IsSoundItem};
+ghost use Rattle.machine_core.specs.Walks.{IsGuestInside, stands_of};
 
 use crate::actor::ActorState;
 use crate::cpu::{GuestAccess, Processor, cpu_access};
@@ -14,7 +16,7 @@ use crate::host::host_access;
 use crate::parts::Parts;
 use crate::shown::Shown;
 use crate::skip::skip;
-use snp_model::{Event, GuestSpec, Item, Role};
+use snp_model::{Event, GuestEnd, GuestSpec, Item, Role};
 
 /// Makes the next event of an unfinished actor in memory of so many frames: the step of the tables, over
 /// parts that have the regions that it touches. Takes no memory.
@@ -27,7 +29,6 @@ pub(crate) fn advance<P: Parts>(
     requires sound { IsSoundPart frames (length guests.now) actor.old }
     requires unfinished { actor.old.item < length actor.old.script }
     requires short { IsBounded actor.old }
-    requires walking { IsWalking frames actor.old }
     requires has { HasAll frames actor.old (P.bays parts.old) }
     ensures event { result ≡ (step_of frames guests.now actor.old (view_on (contents_of (P.bays parts.old) guests.now))).event }
     ensures part { actor.new ≡ (step_of frames guests.now actor.old (view_on (contents_of (P.bays parts.old) guests.now))).part }
@@ -35,7 +36,7 @@ pub(crate) fn advance<P: Parts>(
     ensures kept { P.kept parts.old parts.new }
 {
     let shown = next_event(parts, frames, guests, actor);
-    actor.take_down(shown)
+    actor.take_down(&shown)
 }
 
 // What the next event of an unfinished actor shows; the parts are then as after it.
@@ -48,7 +49,6 @@ fn next_event<P: Parts>(
 ) -> Shown
     requires sound { IsSoundPart frames (length guests.now) part.now }
     requires unfinished { part.now.item < length part.now.script }
-    requires walking { IsWalking frames part.now }
     requires has { HasAll frames part.now (P.bays parts.old) }
     ensures moves { item_move frames guests.now (view_on (contents_of (P.bays parts.old) guests.now)) part.now part.now.role (line_at part.now.script part.now.item).item ≡ move_by result (contents_of (P.bays parts.new) guests.now) part.now }
     ensures kept { P.kept parts.old parts.new }
@@ -67,7 +67,7 @@ fn next_event<P: Parts>(
                 npt,
                 paging,
             };
-            cpu_event(parts, frames, guests, part, cpu, line.item)
+            cpu_event(parts, frames, guests, part, cpu, line.item, part.guest_stands())
         }
         Role::Host => host_event(parts, frames, part, line.item),
         Role::Firmware => firmware_event(parts, frames, part, line.item),
@@ -75,7 +75,7 @@ fn next_event<P: Parts>(
 }
 
 // The next event of a guest's processor.
-#[tactic(auto, unfolding(snp_model::specs::Step::item_move, snp_model::specs::Touches::item_touches, snp_model::specs::OpenAttempts::IsAttempt))]
+#[tactic(auto, unfolding(snp_model::specs::Step::item_move, snp_model::specs::Touches::item_touches))]
 fn cpu_event<P: Parts>(
     parts: &mut P,
     frames: u32,
@@ -83,9 +83,11 @@ fn cpu_event<P: Parts>(
     part: &ActorState,
     cpu: Processor,
     item: Item,
+    stands: GuestEnd,
 ) -> Shown
     requires sound { IsSoundRole frames (length guests.now) (Cpu cpu.guest cpu.vmpl cpu.npt cpu.paging) }
-    requires walking { IsAttempt frames (Cpu cpu.guest cpu.vmpl cpu.npt cpu.paging) item part.now.deeds }
+    requires stands { IsBegun part.now.deeds → stands ≡ stands_of (Cpu cpu.guest cpu.vmpl cpu.npt cpu.paging) item (guest_words part.now.deeds) }
+    requires inside { IsGuestInside stands }
     requires has { HasTouched (item_touches frames part.now.deeds (Cpu cpu.guest cpu.vmpl cpu.npt cpu.paging) item) (P.bays parts.old) }
     ensures moves { item_move frames guests.now (view_on (contents_of (P.bays parts.old) guests.now)) part.now (Cpu cpu.guest cpu.vmpl cpu.npt cpu.paging) item ≡ move_by result (contents_of (P.bays parts.new) guests.now) part.now }
     ensures kept { P.kept parts.old parts.new }
@@ -93,7 +95,7 @@ fn cpu_event<P: Parts>(
     match item {
         Item::Access { address, op } => {
             let access = GuestAccess { cpu, address, op };
-            cpu_access(parts, frames, guests, part, &access)
+            cpu_access(parts, frames, guests, part, &access, stands)
         }
         Item::Pvalidate { .. } => Shown::unbuilt(),
         Item::Rmpadjust { .. } => Shown::unbuilt(),

@@ -1,16 +1,41 @@
 ghost use Rattle.std.specs.Prelude.{◌≡◌, ℕ, ◌<◌, ◌^◌, Bool, [], ◌∷◌, ◌++◌};
 ghost use Rattle.snp_model.specs.declared.item.Op.{Op};
+ghost use Rattle.snp_model.specs.Sound.{IsPaging};
 ghost use Rattle.snp_model.specs.Walking.{flat_gpn, guest_path, guest_stands, table_path, data_path, table_need, data_need, walk_need, fault_of};
-ghost use Rattle.machine_core.specs.Walks.{IsNestedInside, IsGuestInside, IsNeedInside, IsReading, IsWalkable};
+ghost use Rattle.machine_core.specs.Walks.{IsNestedInside, IsGuestInside, IsNeedInside, IsPagingRole, IsReading, stands_of};
 
 use guest_walk::{guest_end, guest_end_with};
 use nested_walk::{nested_end, nested_end_after};
-use snp_model::{GuestEnd, GuestPath, Need, NestedEnd, NestedPath, Op, Outcome, PageSize, Paging};
+use snp_model::{
+    GuestEnd, GuestPath, Item, Need, NestedEnd, NestedPath, Op, Outcome, PageSize, Paging, Role,
+};
 
-/// Where an access stands in its guest walk, by the words of guest tables that it has read.
+/// Where the guest walk of an actor's item stands that has read these words of guest tables. An item without a guest
+/// walk has none.
+pub fn item_stands(role: &Role, item: &Item, words: &[u64]) -> GuestEnd
+    requires { IsPagingRole role.now }
+    ensures stands { result ≡ stands_of role.now item.now words.now }
+    ensures inside { IsGuestInside result }
+{
+    match role {
+        Role::Cpu { paging, .. } => match item {
+            Item::Access { address, op } => guest_stands(*paging, *address, op, words),
+            Item::Pvalidate { .. } => GuestEnd::Fault(0),
+            Item::Rmpadjust { .. } => GuestEnd::Fault(0),
+            Item::Rmpupdate(_) => GuestEnd::Fault(0),
+            Item::Psmash { .. } => GuestEnd::Fault(0),
+            Item::Firmware(_) => GuestEnd::Fault(0),
+            Item::Skip { .. } => GuestEnd::Fault(0),
+        },
+        Role::Host => GuestEnd::Fault(0),
+        Role::Firmware => GuestEnd::Fault(0),
+    }
+}
+
+// Where an access stands in its guest walk, by the words of guest tables that it has read.
 #[tactic(auto, unfolding(snp_model::specs::Walking::guest_stands))]
-pub fn guest_stands(paging: Paging, address: u64, op: &Op, words: &[u64]) -> GuestEnd
-    requires { IsWalkable paging address }
+fn guest_stands(paging: Paging, address: u64, op: &Op, words: &[u64]) -> GuestEnd
+    requires { IsPaging paging }
     ensures stands { result ≡ guest_stands paging address op.now words.now }
     ensures inside { IsGuestInside result }
 {
@@ -34,7 +59,7 @@ pub fn fault_by_table(
     words: &[u64],
     word: u64,
 ) -> Option<Outcome>
-    requires { IsWalkable paging address }
+    requires { IsPaging paging }
     ensures { (frames npt : ℕ) → result ≡ fault_of (walk_need frames npt op.now (guest_stands paging address op.now (words.now ++ word ∷ [])) []) }
 {
     match paging {

@@ -1,6 +1,8 @@
 pub mod Adding
 pub mod AttemptLaws
+pub mod Chains
 pub mod CoreLaws
+pub mod FindingLaws
 pub mod GuestMemoryLaws
 pub mod GuestReadsLaws
 pub mod InstructionLocality
@@ -12,8 +14,11 @@ pub mod OpenAttemptsLaws
 pub mod OpeningLaws
 pub mod OrderedLaws
 pub mod RangeLaws
+pub mod ReadingLaws
+pub mod ReadyLaws
 pub mod RegionLaws
 pub mod RoomLaws
 pub mod RunLaws
+pub mod ShapeLaws
 pub mod SoundLaws
 pub mod UseLaws

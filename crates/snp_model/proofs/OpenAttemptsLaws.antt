@@ -13,6 +13,7 @@ use Rattle.snp_model.specs.declared.event.Outcome.{Outcome}
 use Rattle.snp_model.specs.declared.item.Item.{Item}
 use Rattle.snp_model.specs.declared.item.Item.TheVariants as items
 use Rattle.snp_model.specs.declared.item.Op.{Op}
+use Rattle.snp_model.specs.declared.scenario.Actor.{Actor}
 use Rattle.snp_model.specs.declared.scenario.GuestSpec.{GuestSpec}
 use Rattle.snp_model.specs.declared.scenario.Role.{Role}
 use Rattle.snp_model.specs.declared.scenario.Role.TheVariants.{Cpu, Host, Firmware}
@@ -31,7 +32,7 @@ use Rattle.snp_model.specs.State.{PageLock, ActorPart, Context, Contents, State,
 use Rattle.snp_model.specs.Moves.{Move, lock_move, Arrival, is_running, begin_move, table_word, table_move, need_move, walked_move}
 use Rattle.snp_model.specs.Step.{step_of, after, part_after, item_move, line_at, access_move, data_move, host_access, event_of}
 use Rattle.snp_model.specs.Walking.{Processor, lookup_of, guest_words, nested_words_after, need_after}
-use Rattle.snp_model.proofs.RoomLaws.{guest_words_append, nested_words_append}
+use Rattle.snp_model.proofs.ShapeLaws.{guest_words_append, nested_words_append}
 use Rattle.snp_model.proofs.RunLaws.{unfinished_at}
 
 -- one read more, that is called for
@@ -301,9 +302,12 @@ unfolding state_from IsDefinedFrom
 state_walking m [] walking d = walking
 state_walking m (a ∷ s) walking d = state_walking (after m a) s (after_walking m a walking d.0) d.1
 
+pub opening_part_walking : (frames : ℕ) (actor : Actor) → IsWalking frames (opening_part actor)
+opening_part_walking frames actor = no_deeds frames actor.role _
+
 pub opening_walking : (c : Scenario) → AreWalking (opening c)
 unfolding opening
-opening_walking c = All-map (IsWalking _) opening_part c.actors (λ k d within. no_deeds _ (get_or c.actors k d).role _)
+opening_walking c = All-map (IsWalking _) opening_part c.actors (λ k d within. opening_part_walking _ (get_or c.actors k d))
 
 -- in every run
 pub run_walking : (c : Scenario) (s : List ℕ) → IsDefined c s → AreWalking (state_after c s)

@@ -1,6 +1,7 @@
 -- Which regions of memory, and which guest's context, the next event of an actor may read or write. It is told by the actor's own part, the size of memory and the declared guests alone. This project's own.
-use Rattle.std.specs.Prelude.{◌≡◌, ℕ, ◌+◌, ◌-◌, ◌/◌, ◌==◌, if◌then◌else◌, ◌++◌, Bool, true, false, List, [], ◌∷◌, Option, Some, None}
+use Rattle.std.specs.Prelude.{◌≡◌, ℕ, ◌+◌, ◌-◌, ◌/◌, ◌==◌, nat_lt, if◌then◌else◌, ◌++◌, Bool, true, false, List, [], ◌∷◌, Option, Some, None, is_some}
 use Rattle.std.specs.List.{list_any, range_with_len}
+use Rattle.snp_model.specs.declared.command.Command.{Command}
 use Rattle.snp_model.specs.declared.event.Deed.{Deed}
 use Rattle.snp_model.specs.declared.item.Item.{Item}
 use Rattle.snp_model.specs.declared.item.Item.TheVariants as items
@@ -10,9 +11,11 @@ use Rattle.snp_model.specs.declared.scenario.Role.TheVariants.{Cpu, Host, Firmwa
 use Rattle.snp_model.specs.declared.walk.Lookup.{Lookup}
 use Rattle.snp_model.specs.declared.walk.Need.{Need}
 use Rattle.snp_model.specs.declared.walk.Need.TheVariants as needs
+use Rattle.snp_model.specs.FirmwareLocks.{guest_refusal}
+use Rattle.snp_model.specs.FirmwareStep.{Phase, TakeContext, TakePage, Computing, Committing, phase_of}
 use Rattle.snp_model.specs.InstructionStep.{page_lookup}
 use Rattle.snp_model.specs.RmpUpdate.{is_bad_update, is_bad_smash}
-use Rattle.snp_model.specs.State.{PageLock, ActorPart, Contents, View}
+use Rattle.snp_model.specs.State.{PageLock, Standing, ActorPart, Contents, View}
 use Rattle.snp_model.specs.Step.{Stepped, line_at}
 use Rattle.snp_model.specs.Walking.{Processor, lookup_of, need_after}
 
@@ -66,6 +69,25 @@ with_locks locks touched = record { regions = touched.regions ++ locks_regions l
 unfoldable pub instruction_touches : Bool → ℕ → List PageLock → Touched
 instruction_touches refused frame [] = if refused then nothing_touched else frame_touched frame
 instruction_touches refused frame (lock ∷ others) = with_locks (lock ∷ others) (frame_touched frame)
+
+-- all that an attempt has locked, whose locks a refusal would release
+abbrev pub taken_touched : Standing → Touched
+taken_touched standing = with_locks standing.locks (record { regions = []; context = standing.context_lock })
+
+-- what the next event of a command touches, by what its attempt needs: a frame outside memory and an undeclared guest aren't touched
+unfoldable pub phase_touches : ℕ → List GuestSpec → Standing → Phase → Touched
+phase_touches frames guests standing (TakeContext guest) = if is_some (guest_refusal guests guest) then nothing_touched else context_touched guest
+phase_touches frames guests standing (TakePage page) =
+    with_locks standing.locks (record {
+      regions = if nat_lt page.frame frames then region_of page.frame ∷ [] else [];
+      context = standing.context_lock;
+    })
+phase_touches frames guests standing (Computing sealing) = taken_touched standing
+phase_touches frames guests standing Committing = taken_touched standing
+
+-- what the next event of a command touches
+abbrev pub firmware_touches : ℕ → List GuestSpec → Standing → Command → Touched
+firmware_touches frames guests standing command = phase_touches frames guests standing (phase_of command standing)
 
 -- the next event of an item, by the role of its actor
 unfoldable pub item_touches : ℕ → List GuestSpec → ActorPart → Role → Item → Touched

@@ -6,13 +6,8 @@ use Rattle.machine_core.specs.Bays.{contents_of}
 use Rattle.machine_core.specs.Moves.{processor_of}
 use Rattle.machine_core.proofs.CpuLaws.{access_begun, table_shows}
 use Rattle.machine_core.proofs.WalkingLaws.{is_reading}
-use Rattle.machine_core.proofs.TouchLaws.{access_walkable, data_has, need_has, nested_has, table_has}
+use Rattle.machine_core.proofs.TouchLaws.{data_has, need_has, nested_has, table_has}
 use Rattle.machine_core.proofs.cpu.cpu_access.Goals as goal
-
-pub guest_stands-stands-requires : goal.guest_stands-stands-requires
-guest_stands-stands-requires g c =
-    let access = c.args.access.now in
-    access_walkable c.args.frames (processor_of access.cpu) access.address access.op c.args.part.now.deeds (λ none. grind (arith, common_steps)) c.requires.paging c.requires.walking
 
 pub read_nested-requires-clause-has : goal.read_nested-requires-clause-has
 read_nested-requires-clause-has g c =
@@ -20,14 +15,9 @@ read_nested-requires-clause-has g c =
     let bays = g.P.Parts.bays c.args.parts.now in
     let need : c.walk_need.result ≡ need_after c.args.frames (processor_of access.cpu) access.address access.op c.args.part.now.deeds =
     c.walk_need.ensures.need
-    ∙ (λ i. walk_need c.args.frames access.cpu.npt access.op ((c.guest_stands-stands.ensures.stands ∙ ap (guest_stands access.cpu.paging access.address access.op) c.guest_words.ensures) i) (c.nested_words.ensures i)) in
+    ∙ (λ i. walk_need c.args.frames access.cpu.npt access.op (c.requires.stands (λ none. grind (arith, common_steps)) i) (c.nested_words.ensures i)) in
     nested_has c.in-Nested.frame c.in-Nested.index _ bays (sym need ∙ c.in-Nested.is)
     (need_has c.args.frames (processor_of access.cpu) access.address access.op c.args.part.now.deeds bays (λ none. grind (arith, common_steps)) c.requires.has)
-
-pub read_table-requires-clause-paging : goal.read_table-requires-clause-paging
-read_table-requires-clause-paging g c =
-    let access = c.args.access.now in
-    access_walkable c.args.frames (processor_of access.cpu) access.address access.op c.args.part.now.deeds (λ none. grind (arith, common_steps)) c.requires.paging c.requires.walking
 
 pub read_table-requires-clause-has : goal.read_table-requires-clause-has
 read_table-requires-clause-has g c =
@@ -35,7 +25,7 @@ read_table-requires-clause-has g c =
     let bays = g.P.Parts.bays c.args.parts.now in
     let need : c.walk_need.result ≡ need_after c.args.frames (processor_of access.cpu) access.address access.op c.args.part.now.deeds =
     c.walk_need.ensures.need
-    ∙ (λ i. walk_need c.args.frames access.cpu.npt access.op ((c.guest_stands-stands.ensures.stands ∙ ap (guest_stands access.cpu.paging access.address access.op) c.guest_words.ensures) i) (c.nested_words.ensures i)) in
+    ∙ (λ i. walk_need c.args.frames access.cpu.npt access.op (c.requires.stands (λ none. grind (arith, common_steps)) i) (c.nested_words.ensures i)) in
     table_has c.in-Table.gpn c.in-Table.index c.in-Table.frame c.in-Table.size _ bays (sym need ∙ c.in-Table.is)
     (need_has c.args.frames (processor_of access.cpu) access.address access.op c.args.part.now.deeds bays (λ none. grind (arith, common_steps)) c.requires.has)
 
@@ -45,7 +35,7 @@ reach-requires-clause-has g c =
     let bays = g.P.Parts.bays c.args.parts.now in
     let need : c.walk_need.result ≡ need_after c.args.frames (processor_of access.cpu) access.address access.op c.args.part.now.deeds =
     c.walk_need.ensures.need
-    ∙ (λ i. walk_need c.args.frames access.cpu.npt access.op ((c.guest_stands-stands.ensures.stands ∙ ap (guest_stands access.cpu.paging access.address access.op) c.guest_words.ensures) i) (c.nested_words.ensures i)) in
+    ∙ (λ i. walk_need c.args.frames access.cpu.npt access.op (c.requires.stands (λ none. grind (arith, common_steps)) i) (c.nested_words.ensures i)) in
     data_has c.in-Data.gpn c.in-Data.private c.in-Data.frame c.in-Data.size _ bays (sym need ∙ c.in-Data.is)
     (need_has c.args.frames (processor_of access.cpu) access.address access.op c.args.part.now.deeds bays (λ none. grind (arith, common_steps)) c.requires.has)
 
@@ -56,7 +46,7 @@ returns-in-Table-clause-moves g c =
     let contents = contents_of bays c.args.guests.now in
     let need : c.walk_need.result ≡ need_after c.args.frames (processor_of access.cpu) access.address access.op c.args.part.now.deeds =
     c.walk_need.ensures.need
-    ∙ (λ i. walk_need c.args.frames access.cpu.npt access.op ((c.guest_stands-stands.ensures.stands ∙ ap (guest_stands access.cpu.paging access.address access.op) c.guest_words.ensures) i) (c.nested_words.ensures i)) in
+    ∙ (λ i. walk_need c.args.frames access.cpu.npt access.op (c.requires.stands (λ none. grind (arith, common_steps)) i) (c.nested_words.ensures i)) in
     access_begun c.args.frames c.args.guests.now contents c.args.part.now (processor_of access.cpu) access.address access.op c.args.part.now.deeds c.walk_need.result (λ none. grind (arith, common_steps)) need
     ∙ ap (need_move c.args.frames c.args.guests.now contents c.args.part.now (processor_of access.cpu) access.address access.op) c.in-Table.is
     ∙ table_shows c.args.frames c.args.guests.now contents c.args.part.now (processor_of access.cpu) access.address access.op c.in-Table.gpn c.in-Table.index c.in-Table.frame c.in-Table.size
@@ -66,4 +56,4 @@ pub read_nested-requires-clause-reads : goal.read_nested-requires-clause-reads
 read_nested-requires-clause-reads g c =
     let access = c.args.access.now in
     is_reading c.in-Nested.frame c.in-Nested.index c.walk_need.result _ c.in-Nested.is
-    (c.walk_need.ensures.need ∙ ap (walk_need c.args.frames access.cpu.npt access.op c.guest_stands-stands.result) c.nested_words.ensures)
+    (c.walk_need.ensures.need ∙ ap (walk_need c.args.frames access.cpu.npt access.op c.args.stands) c.nested_words.ensures)
