@@ -21,4 +21,5 @@ pub mod RoomLaws
 pub mod RunLaws
 pub mod ShapeLaws
 pub mod SoundLaws
+pub mod StandingLaws
 pub mod UseLaws
