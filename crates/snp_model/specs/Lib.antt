@@ -37,7 +37,9 @@ pub mod Operations
 pub mod Outcomes
 pub mod Outside
 pub mod PageStates
+pub mod Past
 pub mod Polynomials
+pub mod Premises
 pub mod Reading
 pub mod Ready
 pub mod RegionWords
@@ -53,6 +55,7 @@ pub mod State
 pub mod Step
 pub mod Texts
 pub mod Touches
+pub mod Uniqueness
 pub mod Validation
 pub mod Verdicts
 pub mod Walking
