@@ -12,8 +12,11 @@ pub mod OpenAttemptsLaws
 pub mod OpeningLaws
 pub mod OrderedLaws
 pub mod ReadingLaws
+pub mod ReadyLaws
 pub mod RegionLaws
 pub mod RoomLaws
 pub mod RunLaws
+pub mod ShapeLaws
 pub mod SoundLaws
+pub mod StandingLaws
 pub mod UseLaws

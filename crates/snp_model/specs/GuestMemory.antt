@@ -13,9 +13,9 @@ use Rattle.snp_model.specs.declared.item.Op.{Op}
 use Rattle.snp_model.specs.declared.item.Op.TheVariants.{Load, Store, Swap, Compare, Xor}
 use Rattle.snp_model.specs.declared.scenario.PageSpec.{PageSpec}
 use Rattle.snp_model.specs.declared.scenario.Role.{Role}
-use Rattle.snp_model.specs.declared.scenario.Role.TheVariants.{Cpu}
+use Rattle.snp_model.specs.declared.scenario.Role.TheVariants.{Cpu, Host, Firmware}
 use Rattle.snp_model.specs.declared.scenario.Scenario.{Scenario}
-use Rattle.snp_model.specs.State.{State, part_of, zero_words}
+use Rattle.snp_model.specs.State.{Contents, State, part_of, zero_words}
 use Rattle.snp_model.specs.Step.{event_of, after, line_at}
 use Rattle.snp_model.specs.Opening.{frames_in, opening, words_from}
 
@@ -63,17 +63,22 @@ use_of (deeds.Table gpn index frame (Some value)) item outcome = Reads gpn index
 use_of (deeds.Access gpn index frame true) (items.Access address op) (Some outcome) = use_of_word outcome op gpn index
 use_of deed item outcome = Untouched
 
--- what an event does with the memory of one guest: only its own processors' events do anything
-unfoldable pub use_for : ℕ → Role → Deed → Item → Option Outcome → Use
-use_for guest (Cpu owner vmpl npt paging) deed item outcome = if owner == guest then use_of deed item outcome else Untouched
-use_for guest role deed item outcome = Untouched
+-- what an event of the firmware does with the memory of one guest, by what it leaves: no command is built yet
+unfoldable pub firmware_use : ℕ → Contents → Deed → Item → Option Outcome → Use
+firmware_use guest left deed item outcome = Untouched
+
+-- what an event does with the memory of one guest, by what it leaves: its own processors' events and the firmware's alone do anything
+unfoldable pub use_for : ℕ → Contents → Role → Deed → Item → Option Outcome → Use
+use_for guest left (Cpu owner vmpl npt paging) deed item outcome = if owner == guest then use_of deed item outcome else Untouched
+use_for guest left Host deed item outcome = Untouched
+use_for guest left Firmware deed item outcome = firmware_use guest left deed item outcome
 
 -- what the next event of an actor does with the memory of a guest
 unfoldable pub next_use : ℕ → State → ℕ → Use
 next_use guest m actor =
     let part = part_of m actor in
     let event = event_of m actor in
-    use_for guest part.role event.deed (line_at part.script part.item).item event.outcome
+    use_for guest (after m actor).contents part.role event.deed (line_at part.script part.item).item event.outcome
 
 -- a word may be read: its page is held, and the word is this one or unknown
 pub record MayRead (memory : Memory) (gpn index found : ℕ) : Type 0 where

@@ -3,6 +3,7 @@ pub mod Aes
 pub mod AesField
 pub mod Allowed
 pub mod Attempts
+pub mod Bounds
 pub mod CommandLine
 pub mod Ending
 pub mod Entries
@@ -20,14 +21,17 @@ pub mod Journal
 pub mod Lines
 pub mod Locks
 pub mod Measurement
+pub mod Moves
 pub mod NestedReads
 pub mod NestedWalk
 pub mod OpenAttempts
 pub mod Opening
 pub mod Operations
+pub mod Outcomes
 pub mod Outside
 pub mod Polynomials
 pub mod Reading
+pub mod Ready
 pub mod RegionWords
 pub mod Report
 pub mod Room
