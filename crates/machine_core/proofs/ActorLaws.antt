@@ -6,11 +6,14 @@ use Rattle.snp_model.specs.declared.event.Deed.TheVariants as deeds
 use Rattle.snp_model.specs.declared.item.Line.{Line}
 use Rattle.snp_model.specs.declared.scenario.Role.{Role}
 use Rattle.snp_model.specs.declared.walk.GuestEnd.{GuestEnd}
-use Rattle.snp_model.specs.Step.{line_at}
+use Rattle.snp_model.specs.declared.event.Outcome.{Outcome}
+use Rattle.snp_model.specs.declared.event.Outcome.TheVariants as outcomes
+use Rattle.snp_model.specs.Step.{line_at, passed_over}
 use Rattle.snp_model.specs.Walking.{guest_words, nested_words_after, nested_words}
-use Rattle.snp_model.proofs.RoomLaws.{guest_words_append, nested_words_append}
+use Rattle.snp_model.proofs.ShapeLaws.{guest_words_append, nested_words_append}
 use Rattle.machine_core.specs.Actors.{guest_words_with, nested_words_with, is_nested_read, IsActorState, IsBegun}
-use Rattle.machine_core.specs.Walks.{IsGuestInside, stands_of}
+use Rattle.snp_model.specs.Bounds.{IsGuestInside}
+use Rattle.machine_core.specs.Walks.{stands_of}
 
 guest_words_one : (words : List ℕ) (deed : Deed) → words ++ guest_words (deed ∷ []) ≡ guest_words_with deed words
 unfolding guest_words
@@ -98,3 +101,8 @@ pub stands_stay : (role : Role) (script : List Line) (item : ℕ) (made : List D
     → IsBegun made → is_nested_read deed ≡ true → new_guest ≡ guest_words_with deed guest → stands ≡ stands_of role (line_at script item).item new_guest
 stands_stay role script item made deed guest nested new_guest stands is begun nested_is guest_is =
     is.stands_are begun ∙ ap (stands_of role (line_at script item).item) (sym (guest_is ∙ words_stay deed guest nested_is))
+
+-- an outcome but that of a skip passes over no item
+pub passes_none : (outcome : Outcome) → ((count : ℕ) → outcome ≡ outcomes.Skipped count → ⊥) → passed_over outcome ≡ 0
+passes_none (outcomes.Skipped count) other = absurd (other count refl)
+passes_none outcome other = refl

@@ -7,7 +7,8 @@ use Rattle.snp_model.specs.declared.scenario.Role.{Role}
 use Rattle.snp_model.specs.declared.walk.GuestEnd.{GuestEnd}
 use Rattle.snp_model.specs.Step.{line_at}
 use Rattle.snp_model.specs.Walking.{guest_words, nested_words}
-use Rattle.machine_core.specs.Walks.{IsGuestInside, stands_of}
+use Rattle.snp_model.specs.Bounds.{IsGuestInside}
+use Rattle.machine_core.specs.Walks.{stands_of}
 
 -- the words of guest tables after one more deed
 abbrev pub guest_words_with : Deed → List ℕ → List ℕ

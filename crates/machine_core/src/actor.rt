@@ -2,17 +2,18 @@ ghost use Rattle.std.specs.Prelude.{◌≡◌, ◌++◌, ◌∷◌, [], ◌+◌,
 ghost use Rattle.snp_model.specs.Opening.{opening_part};
 ghost use Rattle.snp_model.specs.Step.{line_at, passed_over, tries_again, last_after, part_after};
 ghost use Rattle.snp_model.specs.declared.event.Event.{Event};
-ghost use Rattle.snp_model.specs.State.{Contents};
+ghost use Rattle.snp_model.specs.State.{View};
 ghost use Rattle.snp_model.specs.Walking.{guest_words, nested_words};
+ghost use Rattle.snp_model.specs.Bounds.{IsGuestInside};
 ghost use Rattle.machine_core.specs.Actors.{IsBegun, is_nested_read};
 ghost use Rattle.machine_core.specs.Moves.{move_by};
-ghost use Rattle.machine_core.specs.Walks.{IsGuestInside, IsPagingRole, stands_of};
+ghost use Rattle.machine_core.specs.Walks.{IsPagingRole, stands_of};
 
 use crate::shown::Shown;
-use crate::walking::item_stands;
-use crate::words::Words;
+use crate::walk_words::WalkWords;
+use crate::walking::{item_stands, no_walk};
 use arrayvec::ArrayVec;
-use snp_model::{Actor, Deed, Event, GuestEnd, Line, Listed, Outcome, Role};
+use snp_model::{Actor, Deed, Event, GuestEnd, Line, Listed, Outcome, OutcomeClass, Role};
 use std::alloc::{AllocError, Global};
 use std::marker::Model;
 
@@ -24,20 +25,19 @@ pub struct ActorState {
     item: usize,
     attempt: u32,
     deeds: ArrayVec<Deed, 32>,
-    words: Words,
+    words: WalkWords,
     // Where the guest walk of the open attempt stands; before it opens, anywhere.
     stands: GuestEnd,
     last: Option<Outcome>,
 }
 
 impl Model for ActorState {
-    ghost use Rattle.std.specs.Prelude.{[], None, ◌<◌, ◌≤◌, ◌^◌, length};
-    ghost use Rattle.snp_model.specs.State.{ActorPart};
+    ghost use Rattle.snp_model.specs.State.{ActorPart, nothing_taken};
     ghost use Rattle.machine_core.specs.Actors.{IsActorState};
 
     ghost Value = { ActorPart };
 
-    ghost view = { λ a. record { role = a.role; script = a.script; item = a.item; attempt = a.attempt; deeds = a.deeds.items; locks = []; context_lock = None; computed = None; last = a.last } };
+    ghost view = { λ a. record { role = a.role; script = a.script; item = a.item; attempt = a.attempt; deeds = a.deeds.items; standing = nothing_taken; last = a.last } };
 
     ghost invariant = { λ a. IsActorState a.role a.script a.item a.deeds.items a.words.guest.items a.words.nested.items a.stands };
 }
@@ -54,8 +54,8 @@ impl ActorState {
             item: 0,
             attempt: 0,
             deeds: ArrayVec::new(),
-            words: Words::new(),
-            stands: GuestEnd::Fault(0),
+            words: WalkWords::new(),
+            stands: no_walk(),
             last: None,
         })
     }
@@ -141,7 +141,7 @@ impl ActorState {
         requires unfinished { self.old.item < length self.old.script }
         requires room { IsNone shown.now.outcome → length self.old.deeds < 32 }
         ensures event { result ≡ record { item = self.old.item; attempt = self.old.attempt; deed = shown.now.deed; outcome = shown.now.outcome } }
-        ensures part { (contents : Contents) → self.new ≡ part_after self.old (move_by shown.now contents self.old) shown.now.outcome }
+        ensures part { (after : View) → self.new ≡ part_after self.old (move_by shown.now after self.old.standing) shown.now.outcome }
     {
         let event = Event {
             item: self.item as u32,
@@ -199,51 +199,17 @@ fn is_nested_read(deed: &Deed) -> bool
 fn tries_again(line: &Line, attempt: u32, outcome: &Outcome) -> bool
     ensures { result ≡ tries_again line.now attempt outcome.now }
 {
-    match outcome {
-        Outcome::StatusInUse { .. } | Outcome::FirmwareInUse { .. } => attempt
-            < u32::from(line.retries),
-        Outcome::Loaded(_)
-        | Outcome::Opaque
-        | Outcome::Stored
-        | Outcome::Swapped(_)
-        | Outcome::Compared { .. }
-        | Outcome::Gp
-        | Outcome::Pf(_)
-        | Outcome::Npf(_)
-        | Outcome::Vc(_)
-        | Outcome::Offline
-        | Outcome::Status(_)
-        | Outcome::Carry(_)
-        | Outcome::Firmware(_)
-        | Outcome::BadTag { .. }
-        | Outcome::Next
-        | Outcome::Skipped(_) => false,
-    }
+    outcome.is_in_use() && attempt < u32::from(line.retries)
 }
 
 // How many items are passed over after an outcome.
+#[tactic(auto, using(crate::proofs::ActorLaws::passes_none))]
 fn passed_over(outcome: &Outcome) -> u32
     ensures { result ≡ passed_over outcome.now }
 {
     match outcome {
         Outcome::Skipped(count) => *count,
-        Outcome::Loaded(_)
-        | Outcome::Opaque
-        | Outcome::Stored
-        | Outcome::Swapped(_)
-        | Outcome::Compared { .. }
-        | Outcome::Gp
-        | Outcome::Pf(_)
-        | Outcome::Npf(_)
-        | Outcome::Vc(_)
-        | Outcome::Offline
-        | Outcome::Status(_)
-        | Outcome::Carry(_)
-        | Outcome::StatusInUse { .. }
-        | Outcome::Firmware(_)
-        | Outcome::FirmwareInUse { .. }
-        | Outcome::BadTag { .. }
-        | Outcome::Next => 0,
+        _ => 0,
     }
 }
 
@@ -251,23 +217,10 @@ fn passed_over(outcome: &Outcome) -> u32
 fn last_after(last: Option<Outcome>, outcome: Outcome) -> Option<Outcome>
     ensures { result ≡ last_after last outcome }
 {
-    match outcome {
-        Outcome::Next | Outcome::Skipped(_) => last,
-        Outcome::Loaded(_)
-        | Outcome::Opaque
-        | Outcome::Stored
-        | Outcome::Swapped(_)
-        | Outcome::Compared { .. }
-        | Outcome::Gp
-        | Outcome::Pf(_)
-        | Outcome::Npf(_)
-        | Outcome::Vc(_)
-        | Outcome::Offline
-        | Outcome::Status(_)
-        | Outcome::Carry(_)
-        | Outcome::StatusInUse { .. }
-        | Outcome::Firmware(_)
-        | Outcome::FirmwareInUse { .. }
-        | Outcome::BadTag { .. } => Some(outcome),
+    match outcome.class() {
+        OutcomeClass::Good => Some(outcome),
+        OutcomeClass::Bad => Some(outcome),
+        OutcomeClass::InUse => Some(outcome),
+        OutcomeClass::Skip => last,
     }
 }

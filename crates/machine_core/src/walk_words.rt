@@ -7,18 +7,18 @@ use snp_model::Deed;
 /// The words that the walks of an open attempt have read: of guest tables, and of nested tables by the nested walk
 /// under way.
 #[derive(Drop)]
-pub struct Words {
+pub struct WalkWords {
     pub guest: ArrayVec<u64, 32>,
     pub nested: ArrayVec<u64, 32>,
 }
 
-impl Words {
+impl WalkWords {
     /// No words.
-    pub fn new() -> Words
+    pub fn new() -> WalkWords
         ensures guest { result.guest.items ≡ [] }
         ensures nested { result.nested.items ≡ [] }
     {
-        Words {
+        WalkWords {
             guest: ArrayVec::new(),
             nested: ArrayVec::new(),
         }
