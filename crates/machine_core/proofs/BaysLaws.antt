@@ -143,6 +143,11 @@ unfolding facts_of
 stored_facts bays new_bays frame index value bay memory stored =
     (λ i f. (stored_pages bays new_bays frame index value bay memory stored i f).facts) ∙ (λ i f. word_facts_each bays frame index value f i)
 
+-- the facts of a frame are its entry's
+pub facts_there : (bays : Bays) (frame : ℕ) (bay : Bay) → bays (frame / 512) ≡ Some bay → facts_of bays frame ≡ facts_at bay.rmp (frame % 512)
+unfolding facts_of
+facts_there bays frame bay there = ap (λ (p : Page). p.facts) (page_there bays frame bay there)
+
 -- a bay with another entry was put
 pub record IsWritten (bays new_bays : Bays) (frame : ℕ) (entry : RmpEntry) (bay new : Bay) : Type 0 where
   pub there : bays (frame / 512) ≡ Some bay

@@ -1,6 +1,7 @@
 -- the pages so far are set
-use Rattle.std.proofs.Common.{◌≡◌, ◌*◌, drop, length}
+use Rattle.std.proofs.Common.{◌≡◌, ℕ, ◌*◌, drop, length}
 use Rattle.std.specs.List.{AllByRecursion}
+use Rattle.snp_model.specs.declared.entry.PageSize.TheVariants.{Small}
 use Rattle.snp_model.specs.Opening.{facts_from}
 use Rattle.snp_model.specs.Sound.{IsPage}
 use Rattle.machine_core.specs.Bays.{facts_of, own_bays, words_of}
@@ -11,5 +12,6 @@ invariant-pages l = record {
   facts : facts_from l.guests (facts_of (own_bays l.parts.bays.items)) (drop l.page-index l.pages) ≡ facts_from l.guests (facts_of (own_bays l.initial.parts.bays.items)) l.pages;
   words : words_of (own_bays l.parts.bays.items) ≡ words_of (own_bays l.initial.parts.bays.items);
   regions : length l.parts.bays.items ≡ length l.initial.parts.bays.items;
+  small : (f : ℕ) → (facts_of (own_bays l.parts.bays.items) f).size ≡ Small;
   rest : AllByRecursion (IsPage (512 * length l.parts.bays.items) (length l.guests)) (drop l.page-index l.pages);
 }
