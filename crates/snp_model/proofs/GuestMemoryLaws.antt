@@ -13,7 +13,8 @@ use Rattle.snp_model.specs.declared.scenario.Scenario.{Scenario}
 use Rattle.snp_model.specs.Locks.{in_range, view_of}
 use Rattle.snp_model.specs.State.{State, part_of, idle_part, zero_words}
 use Rattle.snp_model.specs.Step.{line_at, event_of, after}
-use Rattle.snp_model.specs.Opening.{frames_in, asid_of, words_from, opening, opening_part}
+use Rattle.snp_model.specs.Facts.{frames_in}
+use Rattle.snp_model.specs.Opening.{asid_of, words_from, opening, opening_part}
 use Rattle.snp_model.specs.Run.{state_from, state_after, IsDefined}
 use Rattle.snp_model.specs.Sound.{Pairwise, IsSound, AsidsDiffer, IsPage, GpnsDiffer, IsActor, IsRole}
 use Rattle.snp_model.specs.GuestMemory.{Memory, next_use, used, opening_memory, memory_from, memory_after, IsLegalFrom, IsLegal, AreLegal}

@@ -13,7 +13,8 @@ use Rattle.snp_model.specs.Facts.{free_entry}
 use Rattle.snp_model.specs.Locks.{in_range}
 use Rattle.snp_model.specs.State.{Pages, zero_words}
 use Rattle.snp_model.specs.Sound.{Pairwise}
-use Rattle.snp_model.specs.Opening.{frames_in, asid_of, page_facts, with_page, facts_from, with_word_spec, words_from, opening_context}
+use Rattle.snp_model.specs.Facts.{frames_in}
+use Rattle.snp_model.specs.Opening.{asid_of, page_facts, with_page, facts_from, with_word_spec, words_from, opening_context}
 use Rattle.snp_model.specs.GuestMemory.{Memory, IsHeld, known, with_frames, with_line, with_lines}
 use Rattle.snp_model.specs.Holders.{Holder, InFrame, InEntry, Archive, IsHeldAs, Holds, held_words, Core}
 use Rattle.snp_model.proofs.CoreLaws.{core_shrinks}

@@ -17,7 +17,8 @@ use Rattle.snp_model.specs.declared.scenario.Role.TheVariants.{Cpu}
 use Rattle.snp_model.specs.declared.scenario.Scenario.{Scenario}
 use Rattle.snp_model.specs.State.{State, part_of, zero_words}
 use Rattle.snp_model.specs.Step.{event_of, after, line_at}
-use Rattle.snp_model.specs.Opening.{frames_in, opening, words_from}
+use Rattle.snp_model.specs.Facts.{frames_in}
+use Rattle.snp_model.specs.Opening.{opening, words_from}
 
 -- a page of it: 512 places, each with a number, or unknown
 abbrev pub Places : Type 0

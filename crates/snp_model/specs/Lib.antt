@@ -29,6 +29,7 @@ pub mod Polynomials
 pub mod Reading
 pub mod RegionWords
 pub mod Report
+pub mod RmpUpdate
 pub mod Room
 pub mod Run
 pub mod ScenarioLines
@@ -37,5 +38,6 @@ pub mod Sound
 pub mod State
 pub mod Step
 pub mod Touches
+pub mod Validation
 pub mod Verdicts
 pub mod Walking
