@@ -9,7 +9,9 @@ use Rattle.std.proofs.lemmas.List.Elements.{All-contains, All-filter, All-nil, A
 use Rattle.std.proofs.lemmas.List.FromFn.{length-map-range_with_len, get_or-map-range_with_len}
 use Rattle.std.proofs.lemmas.Map.Keys.{IsDistinct-from_apart, IsDistinct-push, IsDistinct-head, IsDistinct-tail, IsDistinct-cons}
 use Rattle.std.proofs.lemmas.Map.Steps.{length-le_from_distinct_below}
-use Rattle.snp_model.specs.Entries.{lowest_holder, released}
+use Rattle.std.specs.Option.{option_or}
+use Rattle.snp_model.specs.Entries.{released}
+use Rattle.snp_model.specs.Locks.{range_holder}
 use Rattle.rmp_table.specs.declared.locks.FrameLock.{FrameLock}
 use Rattle.rmp_table.specs.Locks.{AreLocks, holder_among, holder_by, holders_by, slots_of}
 
@@ -43,23 +45,29 @@ map_over : {X Y : Type 0} (f : ℕ → X) (g : ℕ → Y) (h : X → Y) → ((k 
 map_over f g h same [] = refl
 map_over f g h same (x ∷ xs) = λ i. same x i ∷ map_over f g h same xs i
 
--- the lowest holder of all
-lowest_none : (f : ℕ → Option ℕ) → ((k : ℕ) → f k ≡ None) → (a n : ℕ) → lowest_holder (map f (range_with_len a n)) ≡ None
-unfolding lowest_holder
-lowest_none f none a zero = refl
-lowest_none f none a (suc n) =
-    ap (λ (o : Option ℕ). lowest_holder (o ∷ map f (range_with_len (a + 1) n))) (none a) ∙ lowest_none f none (a + 1) n
+-- the lowest holder of a range
+pub range_none : (f : ℕ → Option ℕ) (a n : ℕ) → ((k : ℕ) → a ≤ k → k < a + n → f k ≡ None) → range_holder f a n ≡ None
+unfolding range_holder
+range_none f a zero none = refl
+range_none f a (suc n) none =
+    ap (λ (o : Option ℕ). option_or o (range_holder f (a + 1) n)) (none a (omega arith) (omega arith)) ∙ range_none f (a + 1) n (λ k low high. none k (omega arith) (omega arith))
 
-lowest_at : (f : ℕ → Option ℕ) (slot holder : ℕ) → f slot ≡ Some holder → (a n : ℕ) → ((k : ℕ) → a ≤ k → k < slot → f k ≡ None) → a ≤ slot → slot < a + n
-    → lowest_holder (map f (range_with_len a n)) ≡ Some holder
-unfolding lowest_holder
-lowest_at f slot holder here a zero none low high = absurd (omega arith)
-lowest_at f slot holder here a (suc n) none low high = elim (cases_eq slot a) [
-  | inl e ↦ ap (λ (o : Option ℕ). lowest_holder (o ∷ map f (range_with_len (a + 1) n))) (ap f (sym e) ∙ here)
+pub range_at : (f : ℕ → Option ℕ) (slot holder : ℕ) → f slot ≡ Some holder → (a n : ℕ) → ((k : ℕ) → a ≤ k → k < slot → f k ≡ None) → a ≤ slot → slot < a + n → range_holder f a n ≡ Some holder
+unfolding range_holder
+range_at f slot holder here a zero none low high = absurd (omega arith)
+range_at f slot holder here a (suc n) none low high = elim (cases_eq slot a) [
+  | inl e ↦ ap (λ (o : Option ℕ). option_or o (range_holder f (a + 1) n)) (ap f (sym e) ∙ here)
   | inr o ↦
-      ap (λ (o : Option ℕ). lowest_holder (o ∷ map f (range_with_len (a + 1) n))) (none a (omega arith) (omega (arith, o)))
-      ∙ lowest_at f slot holder here (a + 1) n (λ k p q. none k (omega arith) q) (omega (arith, o)) (omega arith)
+      ap (λ (o : Option ℕ). option_or o (range_holder f (a + 1) n)) (none a (omega arith) (omega (arith, o)))
+      ∙ range_at f slot holder here (a + 1) n (λ k p q. none k (omega arith) q) (omega (arith, o)) (omega arith)
 ]
+
+pub range_same : (f g : ℕ → Option ℕ) (a n : ℕ) → ((k : ℕ) → a ≤ k → k < a + n → f k ≡ g k) → range_holder f a n ≡ range_holder g a n
+unfolding range_holder
+range_same f g a zero same = refl
+range_same f g a (suc n) same =
+    ap (λ (o : Option ℕ). option_or o (range_holder f (a + 1) n)) (same a (omega arith) (omega arith))
+    ∙ ap (option_or (g a)) (range_same f g (a + 1) n (λ k low high. same k (omega arith) (omega arith)))
 
 -- ---- locks of single frames
 
@@ -288,10 +296,18 @@ all_are_locked (Some holder) locks capacity actor value are is free = record { a
 pub none_are_locked : (every : Option ℕ) (locks : List FrameLock) (capacity : ℕ) → AreLocks every locks capacity → AreLocks None locks capacity
 none_are_locked every locks capacity are = record { alone = λ holder e. absurd (none≢some holder (sym e)); once = are.once; below = are.below; room = are.room }
 
--- the lowest holder of those that a region keeps
-pub lowest_every : (actor : ℕ) (locks : List FrameLock) → lowest_holder (holders_by (Some actor) locks) ≡ Some actor
-unfolding holders_by
-lowest_every actor locks = lowest_at (holder_by (Some actor) locks) 0 actor refl 0 512 (λ k h l. absurd (omega arith)) (omega arith) (omega arith)
+-- the lowest holder, where one holds all
+pub lowest_every : (actor : ℕ) (locks : List FrameLock) (every : Option ℕ) (value : List (Option ℕ)) → every ≡ Some actor → holders_by every locks ≡ value → Some actor ≡ range_holder (λ (slot : ℕ). get_or value slot None) 0 512
+lowest_every actor locks every value all is =
+    sym (range_at (λ (slot : ℕ). get_or value slot None) 0 actor
+    (ap (λ (hs : List (Option ℕ)). get_or hs 0 None) (sym is) ∙ holders_at every locks 0 (omega arith) ∙ ap (λ (o : Option ℕ). holder_by o locks 0) all)
+    0 512 (λ k h l. absurd (omega arith)) (omega arith) (omega arith))
+
+-- and where only single frames are locked
+pub lowest_single : (locks : List FrameLock) (every : Option ℕ) (value : List (Option ℕ)) → every ≡ None → holders_by every locks ≡ value → range_holder (holder_among locks) 0 512 ≡ range_holder (λ (slot : ℕ). get_or value slot None) 0 512
+lowest_single locks every value none is =
+    range_same (holder_among locks) (λ (slot : ℕ). get_or value slot None) 0 512
+    (λ k h l. ap (λ (o : Option ℕ). holder_by o locks k) (sym none) ∙ sym (holders_at every locks k (omega arith)) ∙ ap (λ (hs : List (Option ℕ)). get_or hs k None) is)
 
 -- an actor's locks of single frames are released
 pub record IsUnlocked (every : Option ℕ) (kept : List FrameLock) (capacity actor : ℕ) (value : List (Option ℕ)) : Type 0 where
@@ -320,16 +336,14 @@ among_low [] slot all = among_none slot
 among_low (first ∷ locks) slot all = let above : slot < first.slot = all.0 in among_other first locks slot (λ e. omega (arith, e)) ∙ among_low locks slot all.1
 
 pub lowest_listed : (locks : List FrameLock) (lock : FrameLock) → IsDistinct eqb (slots_of locks) → All (λ (l : FrameLock). l.slot < 512) locks → Contains locks lock → All (λ (other : FrameLock). lock.slot ≤ other.slot) locks
-    → Some lock.holder ≡ lowest_holder (holders_by None locks)
-unfolding holders_by
+    → Some lock.holder ≡ range_holder (holder_among locks) 0 512
 lowest_listed locks lock once below among lowest =
     let P : FrameLock → Type 0 = λ l. l.slot < 512 in
     let low : lock.slot < 512 = All-contains P locks lock below among in
-    sym (lowest_at (holder_by None locks) lock.slot lock.holder (among_place locks among.0 lock once among.1 among.2) 0 512
+    sym (range_at (holder_among locks) lock.slot lock.holder (among_place locks among.0 lock once among.1 among.2) 0 512
     (λ k h l. among_low locks k (recursion_from_All (λ (o : FrameLock). k < o.slot) locks (λ i d h. let above = lowest i d h in omega arith)))
     (omega arith) (omega arith))
 
-pub lowest_of_none : (locks : List FrameLock) → length locks ≡ 0 → None ≡ lowest_holder (holders_by None locks)
-unfolding holders_by
-lowest_of_none [] empty = sym (lowest_none (holder_by None []) among_none 0 512)
+pub lowest_of_none : (locks : List FrameLock) → length locks ≡ 0 → None ≡ range_holder (holder_among locks) 0 512
+lowest_of_none [] empty = sym (range_none (holder_among []) 0 512 (λ k low high. among_none k))
 lowest_of_none (first ∷ locks) empty = absurd (omega arith)

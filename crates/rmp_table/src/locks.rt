@@ -1,7 +1,8 @@
 ghost use Rattle.std.specs.Prelude.{◌≡◌, ℕ, ◌<◌, ◌≤◌, eqb, length, map, replicate, slice_index_or, slice_set, vec_capacity, Some, None, IfOk, IfSome};
 ghost use Rattle.std.specs.List.{All, Contains, IsDistinct};
-ghost use Rattle.snp_model.specs.Entries.{lowest_holder, released};
-ghost use Rattle.rmp_table.specs.Locks.{holder_among, holders_by, slots_of};
+ghost use Rattle.snp_model.specs.Entries.{released};
+ghost use Rattle.snp_model.specs.Locks.{range_holder};
+ghost use Rattle.rmp_table.specs.Locks.{holder_among, slots_of};
 
 use std::alloc::{AllocError, Global};
 use std::marker::Model;
@@ -66,7 +67,7 @@ impl Locks {
 
     /// The holder of the lowest frame that is locked.
     pub(crate) fn lowest(&self) -> Option<u32>
-        ensures { result ≡ lowest_holder self.now }
+        ensures { result ≡ range_holder (λ slot. slice_index_or self.now slot None) 0 512 }
     {
         match self.every {
             Some(holder) => Some(holder),
@@ -126,7 +127,7 @@ fn holder_among(locks: &[FrameLock], slot: usize) -> Option<u32>
 fn lowest_among(locks: &[FrameLock]) -> Option<u32>
     requires once { IsDistinct eqb (slots_of locks.now) }
     requires below { All (λ lock. lock.slot < 512) locks.now }
-    ensures { result ≡ lowest_holder (holders_by None locks.now) }
+    ensures { result ≡ range_holder (holder_among locks.now) 0 512 }
 {
     match lowest_lock(locks) {
         Some(lock) => Some(lock.holder),

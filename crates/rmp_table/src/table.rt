@@ -2,7 +2,9 @@ ghost use Rattle.std.specs.Prelude.{◌≡◌, ◌≢◌, ℕ, ◌%◌, ◌<◌,
 ghost use Rattle.std.specs.List.{range_with_len};
 ghost use Rattle.snp_model.specs.declared.entry.PageSize.TheVariants.{Small, Large};
 ghost use Rattle.snp_model.specs.Facts.{free_entry};
-ghost use Rattle.snp_model.specs.Entries.{IsTable, IsRegionEntry, facts_at, facts_within, holder_at, lock_answer, lowest_holder, smashed, with_all_locks, with_entry, with_free_frames, with_lock, without_locks};
+ghost use Rattle.snp_model.specs.Entries.{IsRegionEntry, IsTable, facts_at, facts_within, holder_at, lock_answer, with_entry, with_lock, without_locks};
+ghost use Rattle.snp_model.specs.Locks.{page_lock, range_holder, range_lock};
+ghost use Rattle.snp_model.specs.RmpUpdate.{smashed_facts};
 
 use crate::locks::Locks;
 use snp_model::{InUse, PageSize, RmpEntry};
@@ -75,7 +77,8 @@ impl RmpRegion {
         requires not_held { holder_at self.old slot ≢ Some actor }
         ensures answer { result ≡ lock_answer (holder_at self.old slot) }
         ensures another { (holder : ℕ) → result ≡ Err (record { holder = holder }) → holder ≢ actor }
-        ensures locked { IsOk result → self.new ≡ with_lock self.old slot actor }
+        ensures facts { self.new.facts ≡ self.old.facts }
+        ensures locked { IsOk result → let lock = page_lock (facts_at self.old slot).size slot in holder_at self.new ≡ with_lock lock actor (holder_at self.old) }
         ensures refused { IsErr result → self.new ≡ self.old }
     {
         match self.locks.holder(slot) {
@@ -94,9 +97,10 @@ impl RmpRegion {
     /// nothing is changed.
     pub fn lock_all(&mut self, actor: u32) -> Result<(), InUse>
         requires none_held { (slot : ℕ) → slot < 512 → holder_at self.old slot ≢ Some actor }
-        ensures answer { result ≡ lock_answer (lowest_holder self.old.holders) }
+        ensures answer { result ≡ lock_answer (range_holder (holder_at self.old) 0 512) }
         ensures another { (holder : ℕ) → result ≡ Err (record { holder = holder }) → holder ≢ actor }
-        ensures locked { IsOk result → self.new ≡ with_all_locks self.old actor }
+        ensures facts { self.new.facts ≡ self.old.facts }
+        ensures locked { IsOk result → holder_at self.new ≡ with_lock (range_lock Large 0) actor (holder_at self.old) }
         ensures refused { IsErr result → self.new ≡ self.old }
     {
         match self.locks.lowest() {
@@ -110,17 +114,18 @@ impl RmpRegion {
 
     /// Releases every lock of an actor.
     pub fn unlock(&mut self, actor: u32)
-        ensures { self.new ≡ without_locks self.old actor }
+        ensures facts { self.new.facts ≡ self.old.facts }
+        ensures released { holder_at self.new ≡ without_locks actor (holder_at self.old) }
     {
         self.locks.unlock(actor);
     }
 
-    /// Writes the entry of a page: of 4 KB, or of the region's whole page of 2 MB.
+    /// Writes the entry of a page: of 4 KB, or of the region's whole page of 2 MB, at slot 0. The locks stay.
     pub fn write_entry(&mut self, slot: usize, entry: RmpEntry)
         requires slot_below { slot < 512 }
         requires small { entry.size ≡ Small → (facts_at self.old slot).size ≡ Small }
         requires large { entry.size ≡ Large → IsRegionEntry self.old slot entry }
-        ensures written { self.new ≡ with_entry self.old slot entry }
+        ensures written { facts_at self.new ≡ with_entry slot entry (facts_at self.old) }
         ensures others { entry.size ≡ Small → self.new.facts ≡ slice_set self.old.facts slot entry }
         ensures locks { self.new.holders ≡ self.old.holders }
     {
@@ -130,7 +135,8 @@ impl RmpRegion {
 
     /// Makes every frame free. The locks stay.
     pub fn free_all(&mut self)
-        ensures { self.new ≡ with_free_frames self.old }
+        ensures facts { (slot : ℕ) → facts_at self.new slot ≡ free_entry }
+        ensures locks { self.new.holders ≡ self.old.holders }
     {
         self.entries.fill(RmpEntry::free());
         self.size = PageSize::Small;
@@ -139,7 +145,8 @@ impl RmpRegion {
     /// Makes 512 pages of 4 KB of the region's page of 2 MB. The locks stay, and each has the page's holder.
     pub fn smash(&mut self)
         requires { (facts_at self.old 0).size ≡ Large }
-        ensures { self.new ≡ smashed self.old }
+        ensures facts { (slot : ℕ) → facts_at self.new slot ≡ smashed_facts (facts_at self.old slot) }
+        ensures locks { self.new.holders ≡ self.old.holders }
     {
         let head = RmpEntry {
             size: PageSize::Small,

@@ -1,11 +1,11 @@
 -- What a region of the RMP keeps of its 512 frames: their facts and the holders of their locks (this project's own).
-use Rattle.std.specs.Prelude.{◌≡◌, ℕ, ◌+◌, ◌%◌, ◌<◌, ◌==◌, true, if◌then◌else◌, List, [], ◌∷◌, length, map, replicate, slice_index_or, slice_set, Option, Some, None, Result, Ok, Err}
-use Rattle.std.specs.List.{range_with_len}
+use Rattle.std.specs.Prelude.{◌≡◌, ℕ, ◌+◌, ◌%◌, ◌<◌, ◌==◌, true, if◌then◌else◌, List, length, slice_index_or, Option, Some, None, Result, Ok, Err}
 use Rattle.snp_model.specs.declared.entry.RmpEntry.{RmpEntry}
-use Rattle.snp_model.specs.declared.entry.PageSize.{PageSize}
-use Rattle.snp_model.specs.declared.entry.PageSize.TheVariants.{Small, Large}
+use Rattle.snp_model.specs.declared.entry.PageSize.TheVariants.{Large}
 use Rattle.snp_model.specs.declared.event.InUse.{InUse}
-use Rattle.snp_model.specs.Facts.{free_entry}
+use Rattle.snp_model.specs.Facts.{free_entry, frames_in}
+use Rattle.snp_model.specs.Locks.{over, over_lock}
+use Rattle.snp_model.specs.State.{PageLock}
 
 -- the facts of the frames, and the actors that hold their locks
 pub record Entries : Type 0 where
@@ -20,60 +20,28 @@ facts_at rmp slot = slice_index_or rmp.facts slot free_entry
 abbrev pub holder_at : Entries → ℕ → Option ℕ
 holder_at rmp slot = slice_index_or rmp.holders slot None
 
--- the facts of a frame within a page of 2 MB
+-- the facts of a frame within a page of 2 MB, by those of the page's first frame
 abbrev pub facts_within : RmpEntry → ℕ → RmpEntry
-facts_within head slot = record head { gpn = head.gpn + slot }
+facts_within head place = record head { gpn = head.gpn + place }
 
--- the facts once an entry of this size is written: of one frame, or of the region's whole page of 2 MB
-unfoldable pub facts_written : PageSize → List RmpEntry → ℕ → RmpEntry → List RmpEntry
-facts_written Small facts slot entry = slice_set facts slot entry
-facts_written Large facts slot entry = map (facts_within entry) (range_with_len 0 512)
+-- the facts of frames once the entry of a page that begins at one of them is written
+abbrev pub with_entry : ℕ → RmpEntry → (ℕ → RmpEntry) → ℕ → RmpEntry
+with_entry slot entry facts = over slot (frames_in entry.size) (λ place old. facts_within entry place) facts
 
--- an entry is written; the locks stay
-abbrev pub with_entry : Entries → ℕ → RmpEntry → Entries
-with_entry rmp slot entry = record rmp { facts = facts_written entry.size rmp.facts slot entry }
-
--- every frame is free; the locks stay
-abbrev pub with_free_frames : Entries → Entries
-with_free_frames rmp = record rmp { facts = replicate 512 free_entry }
-
--- the facts of a frame once its page of 2 MB has become 512 pages of 4 KB
-abbrev pub small_facts : RmpEntry → RmpEntry
-small_facts facts = record facts { size = Small }
-
--- the region's page of 2 MB becomes 512 pages of 4 KB; the locks stay
-abbrev pub smashed : Entries → Entries
-smashed rmp = record rmp { facts = map small_facts rmp.facts }
-
--- the holders once a frame's page is locked: of one frame, or of the region's whole page of 2 MB
-unfoldable pub page_locked : PageSize → List (Option ℕ) → ℕ → ℕ → List (Option ℕ)
-page_locked Small holders slot actor = slice_set holders slot (Some actor)
-page_locked Large holders slot actor = replicate 512 (Some actor)
-
--- an actor locks a frame's page
-abbrev pub with_lock : Entries → ℕ → ℕ → Entries
-with_lock rmp slot actor = record rmp { holders = page_locked (facts_at rmp slot).size rmp.holders slot actor }
-
--- an actor locks every page
-abbrev pub with_all_locks : Entries → ℕ → Entries
-with_all_locks rmp actor = record rmp { holders = replicate 512 (Some actor) }
+-- the holders once an actor has taken a lock
+abbrev pub with_lock : PageLock → ℕ → (ℕ → Option ℕ) → ℕ → Option ℕ
+with_lock lock actor holder = over_lock lock (λ old. Some actor) holder
 
 -- who holds a lock once an actor's locks are released
 abbrev pub released : ℕ → Option ℕ → Option ℕ
 released actor None = None
 released actor (Some holder) = if holder == actor then None else Some holder
 
--- an actor's locks are released; others' stay
-abbrev pub without_locks : Entries → ℕ → Entries
-without_locks rmp actor = record rmp { holders = map (released actor) rmp.holders }
+-- the holders once an actor's locks are released
+abbrev pub without_locks : ℕ → (ℕ → Option ℕ) → ℕ → Option ℕ
+without_locks actor holder frame = released actor (holder frame)
 
--- the holder of the lowest frame that is locked
-unfoldable pub lowest_holder : List (Option ℕ) → Option ℕ
-lowest_holder [] = None
-lowest_holder (None ∷ holders) = lowest_holder holders
-lowest_holder (Some holder ∷ holders) = Some holder
-
--- the answer of a lock: it is in use where there is a holder
+-- the answer where a lock is asked for: it is in use where there is a holder
 abbrev pub lock_answer : Option ℕ → Result (Unit {0}) InUse
 lock_answer None = Ok tt
 lock_answer (Some holder) = Err (record { holder = holder })

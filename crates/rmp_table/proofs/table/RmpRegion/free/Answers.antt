@@ -10,4 +10,4 @@ invariant_of-result c =
 
 pub returns-clause-facts : goal.returns-clause-facts
 returns-clause-facts c =
-    free_kept _ c.in_ok-none.field-0 (c.in_ok-vec.ensures.items_if_clones_equal (λ y copied. copied) ∙ ap (replicate 512) c.free.ensures)
+    free_kept _ (c.in_ok-vec.ensures.items_if_clones_equal (λ y copied. copied) ∙ ap (replicate 512) c.free.ensures)
