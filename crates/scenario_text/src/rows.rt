@@ -1,5 +1,5 @@
 ghost use Rattle.std.specs.Prelude.{◌≡◌, ℕ, ◌+◌, ◌≤◌, ◌<◌, ◌^◌, true, IsTrue, IfOk, length, map, Ok, Err};
-ghost use Rattle.scenario_text.specs.Behind.{are_behind};
+ghost use Rattle.scenario_text.specs.Pages.{Knows};
 ghost use Rattle.std.specs.List.{list_all, list_any, range_with_len};
 ghost use Rattle.snp_model.specs.Lines.{is_hex_digit};
 ghost use Rattle.snp_model.specs.ScenarioLines.{
@@ -27,6 +27,7 @@ ghost use Rattle.snp_model.specs.ScenarioLines.{
   turn_of,
 };
 
+use crate::taken::Taken;
 use script_text::number::{
     all_hex, digit_value, is_word, read_below, read_decimal, read_fixed, read_number, read_ranged,
 };
@@ -189,34 +190,14 @@ fn read_validity(word: &[u8]) -> Result<bool, Reason>
     }
 }
 
-fn collide(page: &PageSpec, other: &PageSpec) -> bool
-    ensures { result ≡ collide page.now other.now }
-{
-    page.frame == other.frame || (page.guest == other.guest && page.gpn == other.gpn)
-}
-
-fn any_collides(page: &PageSpec, pages: &[PageSpec]) -> bool
-    ensures { result ≡ list_any (collide page.now) pages.now }
-{
-    pages.iter().any(|other| collide(page, other))
-}
-
-// A page that collides with none of these, which have frames and guest page numbers below those.
-#[tactic(auto, using(crate::proofs::PagesLaws::apart_behind), unfolding(snp_model::specs::ScenarioLines::apart))]
-fn keep_apart(
-    pages: &[PageSpec],
-    past_frame: u64,
-    past_gpn: u64,
-    page: PageSpec,
-) -> Result<PageSpec, Reason>
-    requires { are_behind past_frame past_gpn pages.now ≡ true }
+// A page that collides with none of these, which are taken.
+#[tactic(auto, unfolding(snp_model::specs::ScenarioLines::apart))]
+fn keep_apart(pages: &[PageSpec], taken: &Taken, page: PageSpec) -> Result<PageSpec, Reason>
+    requires { Knows taken.now pages.now }
     ensures apart { result ≡ apart pages.now page }
     ensures same { IfOk result (λ kept. kept ≡ page) }
 {
-    if past_frame <= u64::from(page.frame) && past_gpn <= page.gpn {
-        return Ok(page);
-    }
-    if any_collides(&page, pages) {
+    if taken.has(&page) {
         Err(Reason::Repeat)
     } else {
         Ok(page)
@@ -227,11 +208,10 @@ fn keep_apart(
 #[tactic(auto, unfolding(snp_model::specs::ScenarioLines::page_row))]
 pub fn read_page(
     scenario: &Scenario,
-    past_frame: u64,
-    past_gpn: u64,
+    taken: &Taken,
     words: &Words<'_>,
 ) -> Result<PageSpec, Reason>
-    requires behind { are_behind past_frame past_gpn scenario.now.pages ≡ true }
+    requires known { Knows taken.now scenario.now.pages }
     requires count { length words.now ≡ 11 }
     requires regions { scenario.now.regions ≤ 16 }
     requires few { length scenario.now.guests ≤ 8 }
@@ -259,7 +239,7 @@ pub fn read_page(
         valid,
         perms: [first as u8, second as u8, third as u8],
     };
-    keep_apart(scenario.pages.as_slice(), past_frame, past_gpn, page)
+    keep_apart(scenario.pages.as_slice(), taken, page)
 }
 
 /// `word F I V`

@@ -5,12 +5,15 @@ pub mod CoreLaws
 pub mod FindingLaws
 pub mod GuestMemoryLaws
 pub mod GuestReadsLaws
+pub mod InstructionLocality
 pub mod LocalityLaws
 pub mod MemoryLaws
+pub mod MoveLocality
 pub mod NestedReadsLaws
 pub mod OpenAttemptsLaws
 pub mod OpeningLaws
 pub mod OrderedLaws
+pub mod RangeLaws
 pub mod ReadingLaws
 pub mod ReadyLaws
 pub mod RegionLaws
