@@ -11,10 +11,11 @@ mod host;
 mod law;
 mod machine;
 mod parts;
+mod reads;
 mod shown;
 mod skip;
+mod walk_words;
 mod walking;
-mod words;
 
 pub use bay::Bay;
 pub use law::machine_laws;

@@ -1,8 +1,8 @@
 //! The program: `snp replay < SCENARIO`.
 #![tactic(auto)]
 
+use outside_port::{ReaderSource, WriterSink};
 use snp_top::batch::snp_batch;
-use snp_top::outside_port::{ReaderSource, WriterSink};
 use std::io::{BufWriter, Read, Write};
 use std::process::ExitCode;
 use std::{env, io};

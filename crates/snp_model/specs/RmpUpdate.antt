@@ -12,7 +12,7 @@ use Rattle.snp_model.specs.declared.item.Update.{Update}
 use Rattle.snp_model.specs.Facts.{free_entry, frames_in, some_frame}
 use Rattle.snp_model.specs.Locks.{over, over_lock, range_holder, range_lock}
 use Rattle.snp_model.specs.State.{Page, Pages, PageLock, zero_words}
-use Rattle.snp_model.specs.Verdicts.{is_large}
+use Rattle.snp_model.specs.Verdicts.{is_large, same_size}
 
 -- RMPUPDATE
 
@@ -52,11 +52,6 @@ update_refusal frames update facts holder =
 -- the lock that it then takes: that of a 4 KB page, or of every page of a range of 2 MB
 abbrev pub update_lock : Update → PageLock
 update_lock update = range_lock update.size update.frame
-
--- whether two sizes are the same
-abbrev pub same_size : PageSize → PageSize → Bool
-same_size Small size = not (is_large size)
-same_size Large size = is_large size
 
 -- whether a commit makes the page at the range's first frame immutable and leaves all else: it is assigned as asked already
 unfoldable pub makes_immutable : Update → RmpEntry → Bool
@@ -130,6 +125,10 @@ smash_refusal frames frame facts holder =
 abbrev pub smashed_facts : RmpEntry → RmpEntry
 smashed_facts facts = record facts { size = Small }
 
+-- a frame after the commit
+abbrev pub smashed_page : Page → Page
+smashed_page page = record page { facts = smashed_facts page.facts }
+
 -- memory after the commit
 unfoldable pub pages_smashed : PageLock → Pages → Pages
-pages_smashed lock pages = over_lock lock (λ page. record page { facts = smashed_facts page.facts }) pages
+pages_smashed lock pages = over_lock lock smashed_page pages

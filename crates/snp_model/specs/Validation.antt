@@ -10,7 +10,7 @@ use Rattle.snp_model.specs.declared.event.Refusal.TheVariants.{Status, Npf, Vc}
 use Rattle.snp_model.specs.Faults.{code_of}
 use Rattle.snp_model.specs.Locks.{over_lock}
 use Rattle.snp_model.specs.RmpUpdate.{in_use_or}
-use Rattle.snp_model.specs.State.{Pages, PageLock}
+use Rattle.snp_model.specs.State.{Page, Pages, PageLock}
 use Rattle.snp_model.specs.Verdicts.{is_large}
 
 -- the nested fault of either instruction, with SIZEM where the sizes don't fit: the final translation is a private read
@@ -39,10 +39,13 @@ validated_facts validate own facts =
     if carry validate own then facts
     else record facts { validated = validate }
 
+-- a frame after the commit
+abbrev pub validated_page : Bool → RmpEntry → Page → Page
+validated_page validate own page = record page { facts = validated_facts validate own page.facts }
+
 -- memory after the commit: the whole page changes
-unfoldable pub pages_validated : Bool → PageLock → Pages → Pages
-pages_validated validate lock pages =
-    over_lock lock (λ page. record page { facts = validated_facts validate (pages lock.frame).facts page.facts }) pages
+unfoldable pub pages_validated : Bool → RmpEntry → PageLock → Pages → Pages
+pages_validated validate own lock pages = over_lock lock (validated_page validate own) pages
 
 -- RMPADJUST
 
@@ -74,7 +77,10 @@ unfoldable pub adjusted_facts : ℕ → ℕ → ℕ → Bool → RmpEntry → Rm
 adjusted_facts vmpl target mask vmsa facts =
     record facts { perms = slice_set facts.perms target mask; vmsa = if vmpl == 0 then vmsa else facts.vmsa }
 
+-- a frame after the commit
+abbrev pub adjusted_page : ℕ → ℕ → ℕ → Bool → Page → Page
+adjusted_page vmpl target mask vmsa page = record page { facts = adjusted_facts vmpl target mask vmsa page.facts }
+
 -- memory after the commit: the whole page changes
 unfoldable pub pages_adjusted : ℕ → ℕ → ℕ → Bool → PageLock → Pages → Pages
-pages_adjusted vmpl target mask vmsa lock pages =
-    over_lock lock (λ page. record page { facts = adjusted_facts vmpl target mask vmsa page.facts }) pages
+pages_adjusted vmpl target mask vmsa lock pages = over_lock lock (adjusted_page vmpl target mask vmsa) pages

@@ -24,11 +24,11 @@ use Rattle.snp_top.specs.declared.batch.Answer.TheVariants as answers
 use Rattle.snp_top.specs.declared.replay.Played.{Played}
 use Rattle.snp_top.specs.declared.replay.ReplayFault.{ReplayFault}
 use Rattle.snp_top.specs.declared.replay.ReplayFault.TheVariants as faults
-use Rattle.snp_top.specs.Answers.{says}
+use Rattle.snp_model.specs.Findings.{says}
 use Rattle.snp_top.specs.Batch.{Explains, ForScenario, IsStatus, Outside, ReportsTo, SaysBadTurn, SaysCutReport, SaysOne, SaysRun, Wrote, answer_of, line_of, status_of}
 use Rattle.snp_top.specs.Replays.{HasFailed, IsPlayed, IsRead, ReplaysTo, SaysNone}
 use Rattle.snp_top.specs.Schedule.{IsFirstBad}
-use Rattle.snp_top.proofs.FindingLaws.{one_finding}
+use Rattle.snp_model.proofs.FindingLaws.{one_finding}
 
 -- what is written of a replay is the report of its scenario
 played_report : (c : Scenario) (played : Played) → IsPlayed c played → report_text played.journal.list played.guests.items ≡ report_of c (order_of c)

@@ -1,17 +1,4 @@
 pub mod BatchLaws
-pub mod Chains
-pub mod Digits
-pub mod FindingLaws
-pub mod Lines
-pub mod NumberLaws
-pub mod PagesLaws
-pub mod PartsLaws
 pub mod Pieces
-pub mod ReadingLaws
 pub mod ReplayLaws
-pub mod Runs
 pub mod ScheduleLaws
-pub mod ShortLaws
-pub mod StepLaws
-pub mod TextLaws
-pub mod WordsLaws

@@ -19,9 +19,9 @@ use Rattle.snp_model.specs.declared.reading.Quantity.{Quantity}
 use Rattle.snp_model.specs.declared.reading.Reason.{Reason}
 use Rattle.snp_model.specs.Outside.{TakesAll}
 use Rattle.snp_model.specs.Reading.{Reads, Refuses, Passes}
-use Rattle.snp_top.specs.Answers.{Finding, says, wrong, too_much, Finds}
+use Rattle.snp_model.specs.Findings.{Finding, says, wrong, too_much, Finds}
 use Rattle.snp_top.specs.Replays.{SaysNone}
-use Rattle.snp_top.proofs.FindingLaws.{one_finding}
+use Rattle.snp_model.proofs.FindingLaws.{one_finding}
 use Rattle.snp_top.specs.Schedule.{HasRoom}
 
 -- one more guest

@@ -13,11 +13,11 @@ ghost use Rattle.snp_top.specs.Batch.{Explains, ForScenario, IsStatus, ReportsTo
 ghost use Rattle.snp_top.specs.Replays.{IsRead, SaysNone};
 ghost use Rattle.snp_top.specs.Schedule.{IsFirstBad};
 
-use crate::outside_port::{Sink, Source, write_all};
 use crate::replay::{Played, ReplayFault, replay};
-use crate::report_text::write_report;
 use crate::schedule::BadTurn;
-use itoa::Buffer;
+use outside_port::{Sink, Source, write_all};
+use report_text::write_report;
+use script_text::pen::{put, put_named};
 use std::alloc::Global;
 
 /// What the program answers.
@@ -166,32 +166,9 @@ fn schedule_line(turn: BadTurn, out: &mut [u8; 64]) -> usize
     ensures end { result ≤ 64 }
     ensures line { take result out.new ≡ schedule_line turn.entry turn.actor }
 {
-    let at = put(out, 0, b"error schedule ");
-    let at = put_number(out, at, turn.entry);
-    let at = put(out, at, b" ");
-    let at = put_number(out, at, turn.actor);
+    let at = put_named(out, 0, b"error schedule ", u64::from(turn.entry));
+    let at = put_named(out, at, b" ", u64::from(turn.actor));
     put(out, at, b"\n")
-}
-
-// Writes a text at a place, and gives the place after it.
-fn put(out: &mut [u8; 64], at: usize, text: &[u8]) -> usize
-    requires { at + length text.now ≤ 64 }
-    ensures end { result ≡ at + length text.now }
-    ensures text { take result out.new ≡ take at out.old ++ text.now }
-{
-    let end = at + text.len();
-    out[at..end].copy_from_slice(text);
-    end
-}
-
-// Writes a number of 32 bits in base 10.
-fn put_number(out: &mut [u8; 64], at: usize, number: u32) -> usize
-    requires { at + 10 ≤ 64 }
-    ensures end { result ≤ at + 10 }
-    ensures text { take result out.new ≡ take at out.old ++ decimal number }
-{
-    let mut buffer = Buffer::new();
-    put(out, at, buffer.format(number).as_bytes())
 }
 
 // Writes the report of a replay.

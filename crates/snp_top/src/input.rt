@@ -2,7 +2,7 @@ ghost use Rattle.std.specs.Prelude.{◌≡◌, ◌<◌, ◌≤◌, [], length, I
 ghost use Rattle.snp_model.specs.Outside.{ReadTakes, Rose, TakesAll};
 ghost use Rattle.snp_top.specs.Input.{HasInputCause};
 
-use crate::outside_port::{Failed, Source};
+use outside_port::{Failed, Source};
 use std::alloc::{AllocError, Global};
 
 /// The most bytes that a text may have.

@@ -7,11 +7,11 @@ ghost use Rattle.snp_model.specs.Reading.{Valid};
 ghost use Rattle.snp_top.specs.Replays.{ReplaysTo, RunsTo, HasFailed};
 
 use crate::input::{InputFault, read_text};
-use crate::outside_port::Source;
-use crate::run_journal::Journal;
-use crate::scenario_text::{ScenarioFault, read_scenario};
 use crate::schedule::{BadTurn, play};
 use machine_core::Machine;
+use outside_port::Source;
+use run_journal::Journal;
+use scenario_text::{ScenarioFault, read_scenario};
 use snp_model::{Actor, GuestLine, Line, Scenario};
 use std::alloc::{AllocError, Global};
 

@@ -5,8 +5,8 @@ ghost use Rattle.snp_model.specs.Reading.{turns_spell};
 ghost use Rattle.snp_model.specs.State.{IsUnfinished};
 ghost use Rattle.snp_top.specs.Schedule.{HasRoom, IsFirstBad, Plays};
 
-use crate::run_journal::Journal;
 use machine_core::Machine;
+use run_journal::Journal;
 use snp_model::Turn;
 
 /// An entry of a schedule, counted from 0, that names an actor which is missing or finished.

@@ -1,11 +1,11 @@
 //! Texts that no clause spells out, and failures outside in mid-stream.
 use crate::batch::snp_batch;
 use crate::input::{InputFault, MOST_BYTES, read_text};
-use crate::outside_port::{
+use outside_port::{
     Failed, MemorySink, MemorySource, ReaderSource, Sink, SinkFault, Source, WriterSink, write_all,
 };
-use crate::report_text::{write_line, write_report};
-use crate::run_journal::Journal;
+use report_text::{write_line, write_report};
+use run_journal::Journal;
 use snp_model::{Deed, Event, GuestLine, GuestState, Outcome, PageSize};
 use std::process::Abort;
 use std::test::Fail;

@@ -42,6 +42,7 @@ invariant_of-result c =
       regions = c.set_words.ensures.regions ∙ c.set_pages.ensures.regions ∙ c.in_ok-parts.ensures.regions;
       facts = c.set_words.ensures.facts ∙ c.set_pages.ensures.facts ∙ (λ i. facts_from (guests i) (free i) (pages i));
       words = c.set_words.ensures.words ∙ (λ i. words_from (c.set_pages.ensures.words i) (words i)) ∙ ap (λ (w : ℕ → List ℕ). words_from w scenario.words) zero;
+      locks = c.set_words.ensures.locks ∙ c.set_pages.ensures.locks ∙ c.in_ok-parts.ensures.locks;
       guests_are = kept ∙ guests;
       actors_are = parts ∙ ap (map opening_part) actors;
     } in
@@ -62,6 +63,7 @@ returns c =
       regions = c.set_words.ensures.regions ∙ c.set_pages.ensures.regions ∙ c.in_ok-parts.ensures.regions;
       facts = c.set_words.ensures.facts ∙ c.set_pages.ensures.facts ∙ (λ i. facts_from (guests i) (free i) (pages i));
       words = c.set_words.ensures.words ∙ (λ i. words_from (c.set_pages.ensures.words i) (words i)) ∙ ap (λ (w : ℕ → List ℕ). words_from w scenario.words) zero;
+      locks = c.set_words.ensures.locks ∙ c.set_pages.ensures.locks ∙ c.in_ok-parts.ensures.locks;
       guests_are = kept ∙ guests;
       actors_are = parts ∙ ap (map opening_part) actors;
     } in

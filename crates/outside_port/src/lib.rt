@@ -1,0 +1,12 @@
+//! Where the program's bytes come from and go to.
+#![tactic(auto)]
+
+mod adapters;
+mod memory;
+mod sink;
+mod source;
+
+pub use adapters::{ReaderSource, WriterSink};
+pub use memory::{MemorySink, MemorySource};
+pub use sink::{Sink, SinkFault, write_all};
+pub use source::{Failed, Source};

@@ -1,0 +1,162 @@
+ghost use Rattle.std.specs.Prelude.{◌≡◌, ◌+◌, ◌^◌, ◌<◌, ◌≤◌, ◌++◌, length, take, OnErr};
+ghost use Rattle.snp_model.specs.EventText.{event_text};
+ghost use Rattle.snp_model.specs.Journal.{actors_of};
+ghost use Rattle.snp_model.specs.Outside.{Rose, Writes};
+ghost use Rattle.snp_model.specs.Report.{digest_text, end_text, event_lines, guest_lines, guest_text, line, order_lines, report_text, runs_of, state_text};
+
+use crate::base16::put_bytes;
+use crate::line::write_line;
+use crate::order::put_order;
+use outside_port::{Sink, SinkFault, write_all};
+use run_journal::Journal;
+use script_text::pen::{put, put_named};
+use snp_model::{Event, GuestLine, GuestState};
+
+/// Writes the report of a journal and its guests, each line by a call of its own. Takes no memory.
+pub fn write_report<K: Sink>(
+    journal: &Journal,
+    guests: &Vec<GuestLine>,
+    sink: &mut K,
+) -> Result<(), SinkFault>
+    requires { length journal.now.list < 2 ^ 32 }
+    ensures text { Writes (K.written sink.old) (K.written sink.new) result (report_text journal.now.list guests.now.items) }
+    ensures later { K.faults sink.old ≤ K.faults sink.new }
+    ensures cause { OnErr result (Rose (K.faults sink.old) (K.faults sink.new)) }
+{
+    write_all(sink, b"snp-report 1\n")?;
+    write_events(journal, sink)?;
+    write_order(journal, sink)?;
+    write_guests(guests, sink)?;
+    write_end(journal.len(), sink)
+}
+
+// Writes a line for each event.
+fn write_events<K: Sink>(journal: &Journal, sink: &mut K) -> Result<(), SinkFault>
+    requires { length journal.now.list < 2 ^ 32 }
+    ensures text { Writes (K.written sink.old) (K.written sink.new) result (event_lines 0 journal.now.list) }
+    ensures later { K.faults sink.old ≤ K.faults sink.new }
+    ensures cause { OnErr result (Rose (K.faults sink.old) (K.faults sink.new)) }
+{
+    let mut buffer = [0; 256];
+    for k in 0..journal.len() {
+        let (actor, event) = journal.get(k);
+        write_event(k as u32, actor, &event, &mut buffer, sink)?;
+    }
+    Ok(())
+}
+
+// Writes the line of event k.
+fn write_event<K: Sink>(
+    k: u32,
+    actor: u32,
+    event: &Event,
+    buffer: &mut [u8; 256],
+    sink: &mut K,
+) -> Result<(), SinkFault>
+    ensures text { Writes (K.written sink.old) (K.written sink.new) result (line (event_text k actor event.now)) }
+    ensures later { K.faults sink.old ≤ K.faults sink.new }
+    ensures cause { OnErr result (Rose (K.faults sink.old) (K.faults sink.new)) }
+{
+    let end = write_line(k, actor, event, buffer);
+    let end = put(buffer, end, b"\n");
+    write_all(sink, &buffer[..end])
+}
+
+// Writes the order lines.
+fn write_order<K: Sink>(journal: &Journal, sink: &mut K) -> Result<(), SinkFault>
+    ensures text { Writes (K.written sink.old) (K.written sink.new) result (order_lines (runs_of (actors_of journal.now.list))) }
+    ensures later { K.faults sink.old ≤ K.faults sink.new }
+    ensures cause { OnErr result (Rose (K.faults sink.old) (K.faults sink.new)) }
+{
+    let mut buffer = [0; 1024];
+    let mut at = 0;
+    'lines: while at < journal.len() {
+        let (next, end) = put_order(journal, at, &mut buffer);
+        write_all(sink, &buffer[..end])?;
+        at = next;
+    }
+    Ok(())
+}
+
+// Writes a line for each guest.
+fn write_guests<K: Sink>(guests: &Vec<GuestLine>, sink: &mut K) -> Result<(), SinkFault>
+    ensures text { Writes (K.written sink.old) (K.written sink.new) result (guest_lines guests.now.items) }
+    ensures later { K.faults sink.old ≤ K.faults sink.new }
+    ensures cause { OnErr result (Rose (K.faults sink.old) (K.faults sink.new)) }
+{
+    let mut buffer = [0; 256];
+    for guest in guests {
+        write_guest(guest, &mut buffer, sink)?;
+    }
+    Ok(())
+}
+
+// Writes the line of a guest.
+fn write_guest<K: Sink>(
+    guest: &GuestLine,
+    buffer: &mut [u8; 256],
+    sink: &mut K,
+) -> Result<(), SinkFault>
+    ensures text { Writes (K.written sink.old) (K.written sink.new) result (line (guest_text guest.now)) }
+    ensures later { K.faults sink.old ≤ K.faults sink.new }
+    ensures cause { OnErr result (Rose (K.faults sink.old) (K.faults sink.new)) }
+{
+    let end = put_guest(guest, buffer);
+    let end = put(buffer, end, b"\n");
+    write_all(sink, &buffer[..end])
+}
+
+// Writes what is said of a guest into the front of a buffer.
+#[tactic(auto, unfolding(snp_model::specs::Report::guest_text))]
+fn put_guest(guest: &GuestLine, out: &mut [u8; 256]) -> usize
+    ensures end { result ≤ 255 }
+    ensures text { take result out.new ≡ guest_text guest.now }
+{
+    let end = put_named(out, 0, b"guest ", u64::from(guest.guest));
+    let end = put(out, end, b" ");
+    let end = put_state(out, end, guest.state);
+    let end = put(out, end, b" ");
+    put_digest(out, end, guest.pages, &guest.digest)
+}
+
+// Writes the state of a guest's context.
+#[tactic(auto, unfolding(snp_model::specs::Report::state_text))]
+fn put_state(out: &mut [u8], at: usize, state: GuestState) -> usize
+    requires { at + 9 ≤ length out.old }
+    ensures end { result ≤ at + 9 }
+    ensures text { take result out.new ≡ take at out.old ++ state_text state }
+{
+    match state {
+        GuestState::Absent => put(out, at, b"absent"),
+        GuestState::Init => put(out, at, b"init"),
+        GuestState::Launching => put(out, at, b"launching"),
+        GuestState::Running => put(out, at, b"running"),
+    }
+}
+
+// Writes a launch digest, or a dash while no page was launched.
+#[tactic(auto, unfolding(snp_model::specs::Report::digest_text))]
+fn put_digest(out: &mut [u8], at: usize, pages: u32, digest: &[u8; 48]) -> usize
+    requires { at + 96 ≤ length out.old }
+    ensures end { result ≤ at + 96 }
+    ensures text { take result out.new ≡ take at out.old ++ digest_text pages digest.now }
+{
+    if pages == 0 {
+        put(out, at, b"-")
+    } else {
+        put_bytes(out, at, digest)
+    }
+}
+
+// Writes the last line.
+#[tactic(auto, unfolding(snp_model::specs::Report::end_text))]
+fn write_end<K: Sink>(count: usize, sink: &mut K) -> Result<(), SinkFault>
+    ensures text { Writes (K.written sink.old) (K.written sink.new) result (line (end_text count)) }
+    ensures later { K.faults sink.old ≤ K.faults sink.new }
+    ensures cause { OnErr result (Rose (K.faults sink.old) (K.faults sink.new)) }
+{
+    let mut buffer = [0; 32];
+    let end = put_named(&mut buffer, 0, b"end ", count as u64);
+    let end = put(&mut buffer, end, b"\n");
+    write_all(sink, &buffer[..end])
+}

@@ -1,0 +1,116 @@
+ghost use Rattle.std.specs.Prelude.{◌≡◌, ◌<◌, ◌≤◌, ◌^◌, ◌-◌, ◌==◌, [], ◌∷◌, ◌++◌, length, slice_get, vec_capacity, IfOk, Some};
+ghost use Rattle.run_journal.specs.Shorts.{Keeps, outcome_at};
+
+use crate::short::Short;
+use snp_model::{Event, Outcome};
+use std::alloc::{AllocError, Global};
+use std::marker::Model;
+
+/// The events of a run with their actors, the oldest first. It has its memory from the start. Outcomes are much
+/// larger than the rest of an event, and most events have none, so they are kept apart.
+#[derive(Debug, Drop)]
+pub struct Journal {
+    events: Vec<Short>,
+    outcomes: Vec<Outcome>,
+}
+
+impl Model for Journal {
+    ghost use Rattle.std.specs.Prelude.{vec_capacity};
+    ghost use Rattle.snp_model.specs.Journal.{Entries};
+    ghost use Rattle.run_journal.specs.Shorts.{entries_of, AreShorts};
+
+    ghost Value = { Entries };
+
+    ghost view = { λ j. record { list = entries_of j.outcomes.items j.events.items; room = vec_capacity j.events } };
+
+    ghost invariant = { λ j. AreShorts j.events.items (vec_capacity j.events) j.outcomes.items (vec_capacity j.outcomes) };
+}
+
+impl Journal {
+    /// An empty journal with room for so many events.
+    #[tactic(auto, using(crate::proofs::ShortLaws::shorts_none))]
+    pub fn with_room(alloc: Global, room: usize) -> Result<Journal, AllocError>
+        ensures { IfOk result (λ journal. journal ≡ record { list = []; room = room }) }
+    {
+        if room > 0xffff_ffff {
+            return Err(AllocError);
+        }
+        let events = Vec::with_capacity(alloc, room)?;
+        let outcomes = Vec::with_capacity(alloc, room)?;
+        Ok(Journal { events, outcomes })
+    }
+
+    /// Adds an event of an actor. Takes no memory.
+    pub fn push(&mut self, actor: u32, event: Event)
+        requires { length self.old.list < self.old.room }
+        ensures list { self.new.list ≡ self.old.list ++ (actor, event) ∷ [] }
+        ensures room { self.new.room ≡ self.old.room }
+    {
+        let end = keep_outcome(&mut self.outcomes, &event.outcome);
+        self.events.push_reserved(Short {
+            actor,
+            item: event.item,
+            attempt: event.attempt,
+            end,
+            deed: event.deed,
+        });
+    }
+
+    /// How many events there are.
+    pub fn len(&self) -> usize
+        ensures { result ≡ length self.now.list }
+    {
+        self.events.len()
+    }
+
+    /// Whether there is no event.
+    pub fn is_empty(&self) -> bool
+        ensures { result ≡ (length self.now.list == 0) }
+    {
+        self.len() == 0
+    }
+
+    /// Event k, from 0, and its actor.
+    pub fn get(&self, k: usize) -> (u32, Event)
+        requires { k < length self.now.list }
+        ensures { slice_get self.now.list k ≡ Some result }
+    {
+        let short = self.events[k];
+        let event = Event {
+            item: short.item,
+            attempt: short.attempt,
+            deed: short.deed,
+            outcome: outcome_at(&self.outcomes, short.end),
+        };
+        (short.actor, event)
+    }
+}
+
+// Keeps an outcome, if there is one, and gives the place after it.
+#[tactic(auto, using(crate::proofs::ShortLaws::keeps_none, crate::proofs::ShortLaws::keeps_some))]
+fn keep_outcome(outcomes: &mut Vec<Outcome>, outcome: &Option<Outcome>) -> u32
+    requires room { length outcomes.old.items < vec_capacity outcomes.old }
+    requires few { length outcomes.old.items < 2 ^ 32 - 1 }
+    ensures kept { Keeps outcomes.old.items outcomes.new.items outcome.now result }
+    ensures capacity { vec_capacity outcomes.new ≡ vec_capacity outcomes.old }
+{
+    match outcome {
+        None => 0,
+        Some(outcome) => {
+            outcomes.push_reserved(*outcome);
+            outcomes.len() as u32
+        }
+    }
+}
+
+// The outcome before a place, if the place isn't 0.
+fn outcome_at(outcomes: &Vec<Outcome>, end: u32) -> Option<Outcome>
+    requires { end ≤ length outcomes.now.items }
+    ensures { result ≡ outcome_at outcomes.now.items end }
+{
+    if end == 0 {
+        None
+    } else {
+        Some(outcomes[end as usize - 1])
+    }
+}

@@ -1,0 +1,7 @@
+//! The journal of a run.
+#![tactic(auto)]
+
+mod journal;
+mod short;
+
+pub use journal::Journal;

@@ -1,0 +1,15 @@
+//! The scenario text.
+#![tactic(auto)]
+
+mod draft;
+mod fault;
+pub mod laws;
+mod reading;
+mod rows;
+mod steps;
+#[cfg(test)]
+mod tests;
+mod text;
+
+pub use fault::ScenarioFault;
+pub use text::read_scenario;

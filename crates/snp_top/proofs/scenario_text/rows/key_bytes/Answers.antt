@@ -1,7 +1,0 @@
-use Rattle.std.proofs.Common.{rules}
-use Rattle.std.proofs.lemmas.List.FromFn.{fill_by_all}
-use Rattle.snp_model.specs.ScenarioLines.{key_byte}
-use Rattle.snp_top.proofs.scenario_text.rows.key_bytes.Goals as goal
-
-pub returns : goal.returns
-returns c = fill_by_all (key_byte c.args.word.now) c.loop-k.key 32 0 c.loop-k.invariant.0 (search rules)

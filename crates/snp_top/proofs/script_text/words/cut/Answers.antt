@@ -1,9 +1,0 @@
-use Rattle.std.proofs.Common.{sym}
-use Rattle.snp_top.proofs.PartsLaws.{parts_none, parts_behind}
-use Rattle.snp_top.proofs.script_text.words.cut.Goals as goal
-
-pub returns-in-Some-clause-parts : goal.returns-in-Some-clause-parts
-returns-in-Some-clause-parts c = parts_behind c.args.separator c.args.bytes.now c.in-Some.at (sym c.in-Some.ensures.place)
-
-pub returns-in-None-clause-parts : goal.returns-in-None-clause-parts
-returns-in-None-clause-parts c = parts_none c.args.separator c.args.bytes.now (sym c.in-None.ensures.place)
