@@ -3,6 +3,7 @@ pub mod AttemptLaws
 pub mod Chains
 pub mod CoreLaws
 pub mod FindingLaws
+pub mod EntriesLaws
 pub mod GuestMemoryLaws
 pub mod GuestReadsLaws
 pub mod InstructionLocality
