@@ -5,7 +5,7 @@ use Rattle.std.proofs.lemmas.List.{get_or-set_same, get_or-set_other, length-set
 use Rattle.snp_model.specs.declared.entry.RmpEntry.{RmpEntry}
 use Rattle.snp_model.specs.State.{Page, Pages, with_word, word_of}
 use Rattle.snp_model.specs.GuestMemory.{Memory, known, with_known, MayRead}
-use Rattle.snp_model.specs.Holders.{Holder, InFrame, InEntry, Archive, IsHeldAs, Holds, held_words, Core}
+use Rattle.snp_model.specs.Holders.{Holder, InFrame, IsHeldAs, Holds, held_words, Core}
 use Rattle.snp_model.proofs.MemoryLaws.{IsSamePlace, with_known_held, with_known_known}
 
 -- a written word changes no facts
@@ -28,38 +28,36 @@ with_word_length frame index value pages f =
 -- the facts of a holder after a written word are those before
 held_before : (frame index value : ℕ) (pages : Pages) (asid gpn : ℕ) (x : Holder) → Holds (with_word frame index value pages) asid gpn x → Holds pages asid gpn x
 held_before frame index value pages asid gpn (InFrame f) h = subst (λ (facts : RmpEntry). IsHeldAs facts asid gpn) (with_word_facts frame index value pages f) h
-held_before frame index value pages asid gpn (InEntry f e) h = h
 
 -- a change that makes no new holder, and leaves the words of those that are left
-pub core_shrinks : (old new : Pages) (archive : Archive) (asid : ℕ) (memory : Memory)
+pub core_shrinks : (old new : Pages) (asid : ℕ) (memory : Memory)
     → ((gpn : ℕ) (x : Holder) → Holds new asid gpn x → Holds old asid gpn x)
-    → ((gpn : ℕ) (x : Holder) (index : ℕ) → Holds new asid gpn x → get_or (held_words new archive x) index 0 ≡ get_or (held_words old archive x) index 0)
-    → Core old archive asid memory → Core new archive asid memory
-core_shrinks old new archive asid memory before same core = record {
+    → ((gpn : ℕ) (x : Holder) (index : ℕ) → Holds new asid gpn x → get_or (held_words new x) index 0 ≡ get_or (held_words old x) index 0)
+    → Core old asid memory → Core new asid memory
+core_shrinks old new asid memory before same core = record {
   unique = λ gpn x y hx hy. core.unique gpn x y (before gpn x hx) (before gpn y hy);
   held = λ gpn x h. core.held gpn x (before gpn x h);
   agree = λ gpn x index word h k. same gpn x index h ∙ core.agree gpn x index word (before gpn x h) k;
 }
 
 -- a word written to a frame that holds nothing of the guest
-same_words_elsewhere : (frame index value : ℕ) (pages : Pages) (archive : Archive) (asid : ℕ) → ((gpn : ℕ) → IsHeldAs (pages frame).facts asid gpn → ⊥)
+same_words_elsewhere : (frame index value : ℕ) (pages : Pages) (asid : ℕ) → ((gpn : ℕ) → IsHeldAs (pages frame).facts asid gpn → ⊥)
     → (gpn : ℕ) (x : Holder) (place : ℕ) → Holds (with_word frame index value pages) asid gpn x
-    → get_or (held_words (with_word frame index value pages) archive x) place 0 ≡ get_or (held_words pages archive x) place 0
-same_words_elsewhere frame index value pages archive asid none gpn (InFrame f) place h =
+    → get_or (held_words (with_word frame index value pages) x) place 0 ≡ get_or (held_words pages x) place 0
+same_words_elsewhere frame index value pages asid none gpn (InFrame f) place h =
     let old = held_before frame index value pages asid gpn (InFrame f) h in
     let other : f ≢ frame = λ same. none gpn (subst (λ (k : ℕ). IsHeldAs (pages k).facts asid gpn) same old) in
     ap (λ (words : List ℕ). get_or words place 0) (with_word_other frame index value pages f other)
-same_words_elsewhere frame index value pages archive asid none gpn (InEntry f e) place h = refl
 
-pub core_writes_elsewhere : (frame index value : ℕ) (pages : Pages) (archive : Archive) (asid : ℕ) (memory : Memory) → ((gpn : ℕ) → IsHeldAs (pages frame).facts asid gpn → ⊥)
-    → Core pages archive asid memory → Core (with_word frame index value pages) archive asid memory
-core_writes_elsewhere frame index value pages archive asid memory none core =
-    core_shrinks pages (with_word frame index value pages) archive asid memory (held_before frame index value pages asid) (same_words_elsewhere frame index value pages archive asid none) core
+pub core_writes_elsewhere : (frame index value : ℕ) (pages : Pages) (asid : ℕ) (memory : Memory) → ((gpn : ℕ) → IsHeldAs (pages frame).facts asid gpn → ⊥)
+    → Core pages asid memory → Core (with_word frame index value pages) asid memory
+core_writes_elsewhere frame index value pages asid memory none core =
+    core_shrinks pages (with_word frame index value pages) asid memory (held_before frame index value pages asid) (same_words_elsewhere frame index value pages asid none) core
 
 -- what a holder's word lets a guest read
-pub core_may_read : (pages : Pages) (archive : Archive) (asid : ℕ) (memory : Memory) (gpn frame index : ℕ)
-    → Core pages archive asid memory → IsHeldAs (pages frame).facts asid gpn → MayRead memory gpn index (word_of (pages frame) index)
-core_may_read pages archive asid memory gpn frame index core h = record {
+pub core_may_read : (pages : Pages) (asid : ℕ) (memory : Memory) (gpn frame index : ℕ)
+    → Core pages asid memory → IsHeldAs (pages frame).facts asid gpn → MayRead memory gpn index (word_of (pages frame) index)
+core_may_read pages asid memory gpn frame index core h = record {
   held = core.held gpn (InFrame frame) h;
   agrees = λ word k. sym (core.agree gpn (InFrame frame) index word h k);
 }
@@ -72,26 +70,26 @@ one_page facts asid p q hp hq = sym hq.gpn_is ∙ hp.gpn_is
 in_frame : (f g : ℕ) → InFrame f ≡ InFrame g → f ≡ g
 in_frame f g e = cc
 
-agree_read : (pages : Pages) (archive : Archive) (asid : ℕ) (memory : Memory) (gpn frame index value : ℕ)
-    → Core pages archive asid memory → IsHeldAs (pages frame).facts asid gpn → word_of (pages frame) index ≡ value
+agree_read : (pages : Pages) (asid : ℕ) (memory : Memory) (gpn frame index value : ℕ)
+    → Core pages asid memory → IsHeldAs (pages frame).facts asid gpn → word_of (pages frame) index ≡ value
     → (q : ℕ) (x : Holder) (place word : ℕ) → Holds pages asid q x → known (with_known gpn index value memory) q place ≡ Some word
-    → get_or (held_words pages archive x) place 0 ≡ word
-agree_read pages archive asid memory gpn frame index value core h is q x place word hx k =
+    → get_or (held_words pages x) place 0 ≡ word
+agree_read pages asid memory gpn frame index value core h is q x place word hx k =
     ⊎_elim
     (λ (now : IsSamePlace gpn index q place × (word ≡ value)).
     let here : Holds pages asid gpn x = subst (λ (p : ℕ). Holds pages asid p x) now.0.page hx in
     let one : x ≡ InFrame frame = core.unique gpn x (InFrame frame) here h in
-    ap (λ (y : Holder). get_or (held_words pages archive y) place 0) one ∙ ap (λ (i : ℕ). word_of (pages frame) i) now.0.place ∙ is ∙ sym now.1)
+    ap (λ (y : Holder). get_or (held_words pages y) place 0) one ∙ ap (λ (i : ℕ). word_of (pages frame) i) now.0.place ∙ is ∙ sym now.1)
     (λ (before : (IsSamePlace gpn index q place → ⊥) × (known memory q place ≡ Some word)). core.agree q x place word hx before.1)
     (with_known_known gpn index value memory q place word k)
 
-pub core_reads : (pages : Pages) (archive : Archive) (asid : ℕ) (memory : Memory) (gpn frame index value : ℕ)
-    → Core pages archive asid memory → IsHeldAs (pages frame).facts asid gpn → word_of (pages frame) index ≡ value
-    → Core pages archive asid (with_known gpn index value memory)
-core_reads pages archive asid memory gpn frame index value core h is = record {
+pub core_reads : (pages : Pages) (asid : ℕ) (memory : Memory) (gpn frame index value : ℕ)
+    → Core pages asid memory → IsHeldAs (pages frame).facts asid gpn → word_of (pages frame) index ≡ value
+    → Core pages asid (with_known gpn index value memory)
+core_reads pages asid memory gpn frame index value core h is = record {
   unique = core.unique;
   held = λ q x hx. with_known_held gpn index value memory q (core.held q x hx);
-  agree = agree_read pages archive asid memory gpn frame index value core h is;
+  agree = agree_read pages asid memory gpn frame index value core h is;
 }
 
 -- a word of a holder is written
@@ -107,12 +105,11 @@ word_kept frame index value pages f place apart =
     (λ (other : f ≡ frame → ⊥). ap (λ (words : List ℕ). get_or words place 0) (with_word_other frame index value pages f other))
     (cases_eq f frame)
 
-agree_write : (pages : Pages) (archive : Archive) (asid : ℕ) (memory : Memory) (gpn frame index value : ℕ)
-    → Core pages archive asid memory → IsHeldAs (pages frame).facts asid gpn → index < length (pages frame).words
+agree_write : (pages : Pages) (asid : ℕ) (memory : Memory) (gpn frame index value : ℕ)
+    → Core pages asid memory → IsHeldAs (pages frame).facts asid gpn → index < length (pages frame).words
     → (q : ℕ) (x : Holder) (place word : ℕ) → Holds pages asid q x → known (with_known gpn index value memory) q place ≡ Some word
-    → get_or (held_words (with_word frame index value pages) archive x) place 0 ≡ word
-agree_write pages archive asid memory gpn frame index value core h within q (InEntry f e) place word hx k = absurd hx
-agree_write pages archive asid memory gpn frame index value core h within q (InFrame f) place word hx k =
+    → get_or (held_words (with_word frame index value pages) x) place 0 ≡ word
+agree_write pages asid memory gpn frame index value core h within q (InFrame f) place word hx k =
     ⊎_elim
     (λ (now : IsSamePlace gpn index q place × (word ≡ value)).
     let here : Holds pages asid gpn (InFrame f) = subst (λ (p : ℕ). Holds pages asid p (InFrame f)) now.0.page hx in
@@ -125,13 +122,13 @@ agree_write pages archive asid memory gpn frame index value core h within q (InF
     word_kept frame index value pages f place apart ∙ core.agree q (InFrame f) place word hx before.1)
     (with_known_known gpn index value memory q place word k)
 
-pub core_writes : (pages : Pages) (archive : Archive) (asid : ℕ) (memory : Memory) (gpn frame index value : ℕ)
-    → Core pages archive asid memory → IsHeldAs (pages frame).facts asid gpn → index < length (pages frame).words
-    → Core (with_word frame index value pages) archive asid (with_known gpn index value memory)
-core_writes pages archive asid memory gpn frame index value core h within =
+pub core_writes : (pages : Pages) (asid : ℕ) (memory : Memory) (gpn frame index value : ℕ)
+    → Core pages asid memory → IsHeldAs (pages frame).facts asid gpn → index < length (pages frame).words
+    → Core (with_word frame index value pages) asid (with_known gpn index value memory)
+core_writes pages asid memory gpn frame index value core h within =
     let before = held_before frame index value pages asid in
     record {
       unique = λ q x y hx hy. core.unique q x y (before q x hx) (before q y hy);
       held = λ q x hx. with_known_held gpn index value memory q (core.held q x (before q x hx));
-      agree = λ q x place word hx k. agree_write pages archive asid memory gpn frame index value core h within q x place word (before q x hx) k;
+      agree = λ q x place word hx k. agree_write pages asid memory gpn frame index value core h within q x place word (before q x hx) k;
     }

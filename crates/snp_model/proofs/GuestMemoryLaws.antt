@@ -1,5 +1,5 @@
 -- Each guest's private accesses are one legal history of a memory of its own, whatever the schedule is.
-use Rattle.std.proofs.Common.{◌≡◌, ◌≢◌, ℕ, zero, suc, ◌-◌, ◌<◌, ◌≤◌, true, List, [], ◌∷◌, length, map, get_or, None, refl, sym, ap, ◌∙◌, subst, arith}
+use Rattle.std.proofs.Common.{◌≡◌, ◌≢◌, ℕ, zero, suc, ◌-◌, ◌<◌, ◌≤◌, true, List, [], ◌∷◌, length, map, get_or, refl, sym, ap, ◌∙◌, subst, arith}
 use Rattle.std.specs.List.{AllByRecursion}
 use Rattle.std.proofs.lemmas.Bool.Decides.{nat_tests}
 use Rattle.snp_model.specs.declared.entry.PageSize.{PageSize}
@@ -15,34 +15,35 @@ use Rattle.snp_model.specs.State.{State, part_of, idle_part, zero_words}
 use Rattle.snp_model.specs.Step.{line_at, event_of, after}
 use Rattle.snp_model.specs.Opening.{frames_in, asid_of, words_from, opening, opening_part}
 use Rattle.snp_model.specs.Run.{state_from, state_after, IsDefined}
-use Rattle.snp_model.specs.Sound.{Pairwise, IsSound, AsidsDiffer, IsPage, GpnsDiffer, IsActor, IsRole}
+use Rattle.snp_model.specs.Bounds.{IsRole}
+use Rattle.snp_model.specs.Sound.{Pairwise, IsSound, AsidsDiffer, IsPage, GpnsDiffer, IsActor}
 use Rattle.snp_model.specs.GuestMemory.{Memory, next_use, used, opening_memory, memory_from, memory_after, IsLegalFrom, IsLegal, AreLegal}
-use Rattle.snp_model.specs.Holders.{Archive, Core}
+use Rattle.snp_model.specs.Holders.{Core}
 use Rattle.snp_model.proofs.RunLaws.{after_keeps}
 use Rattle.snp_model.proofs.UseLaws.{AreWhole, RoleOwns, Fine, item_fine}
 use Rattle.snp_model.proofs.OpeningLaws.{IsApartFrom, RangesApart, opening_core, opening_whole}
 
 -- what a state keeps for a guest, beside the guest's memory
-pub record Keeps (guest asid : ℕ) (archive : Archive) (m : State) (memory : Memory) : Type 0 where
-  pub core : Core m.contents.pages archive asid memory
+pub record Keeps (guest asid : ℕ) (m : State) (memory : Memory) : Type 0 where
+  pub core : Core m.contents.pages asid memory
   pub whole : AreWhole m.contents.pages
   pub owns : (actor : ℕ) → RoleOwns guest asid m.guests (part_of m actor).role
 
 -- an event of any actor
-step_fine : (guest asid : ℕ) (archive : Archive) (m : State) (memory : Memory) (actor : ℕ) → Keeps guest asid archive m memory
-    → Fine asid archive memory m.contents (after m actor).contents (next_use guest m actor)
+step_fine : (guest asid : ℕ) (m : State) (memory : Memory) (actor : ℕ) → Keeps guest asid m memory
+    → Fine asid memory m.contents (after m actor).contents (next_use guest m actor)
 unfolding after next_use event_of
-step_fine guest asid archive m memory actor keeps =
+step_fine guest asid m memory actor keeps =
     let part = part_of m actor in
-    (item_fine guest asid m.guests archive memory m.frames (view_of m) part part.role (line_at part.script part.item).item
+    (item_fine guest asid m.guests memory m.frames (view_of m) part part.role (line_at part.script part.item).item
     (record { core = keeps.core; whole = keeps.whole }) (keeps.owns actor)).fine
 
 -- so the next state keeps the same
-step_keeps : (guest asid : ℕ) (archive : Archive) (m : State) (memory : Memory) (actor : ℕ) → Keeps guest asid archive m memory
-    → Keeps guest asid archive (after m actor) (used (next_use guest m actor) memory)
+step_keeps : (guest asid : ℕ) (m : State) (memory : Memory) (actor : ℕ) → Keeps guest asid m memory
+    → Keeps guest asid (after m actor) (used (next_use guest m actor) memory)
 unfolding after
-step_keeps guest asid archive m memory actor keeps =
-    let fine = step_fine guest asid archive m memory actor keeps in
+step_keeps guest asid m memory actor keeps =
+    let fine = step_fine guest asid m memory actor keeps in
     record {
       core = fine.core;
       whole = fine.whole;
@@ -50,19 +51,19 @@ step_keeps guest asid archive m memory actor keeps =
     }
 
 -- so a run from a state on
-pub run_keeps : (guest asid : ℕ) (archive : Archive) (m : State) (memory : Memory) (s : List ℕ) → Keeps guest asid archive m memory
-    → Keeps guest asid archive (state_from m s) (memory_from guest m memory s)
+pub run_keeps : (guest asid : ℕ) (m : State) (memory : Memory) (s : List ℕ) → Keeps guest asid m memory
+    → Keeps guest asid (state_from m s) (memory_from guest m memory s)
 unfolding state_from memory_from
-run_keeps guest asid archive m memory [] keeps = keeps
-run_keeps guest asid archive m memory (a ∷ s) keeps =
-    run_keeps guest asid archive (after m a) (used (next_use guest m a) memory) s (step_keeps guest asid archive m memory a keeps)
+run_keeps guest asid m memory [] keeps = keeps
+run_keeps guest asid m memory (a ∷ s) keeps =
+    run_keeps guest asid (after m a) (used (next_use guest m a) memory) s (step_keeps guest asid m memory a keeps)
 
-pub run_legal : (guest asid : ℕ) (archive : Archive) (m : State) (memory : Memory) (s : List ℕ) → Keeps guest asid archive m memory → IsLegalFrom guest m memory s
+pub run_legal : (guest asid : ℕ) (m : State) (memory : Memory) (s : List ℕ) → Keeps guest asid m memory → IsLegalFrom guest m memory s
 unfolding IsLegalFrom
-run_legal guest asid archive m memory [] keeps = tt
-run_legal guest asid archive m memory (a ∷ s) keeps = (
-  (step_fine guest asid archive m memory a keeps).legal,
-  run_legal guest asid archive (after m a) (used (next_use guest m a) memory) s (step_keeps guest asid archive m memory a keeps),
+run_legal guest asid m memory [] keeps = tt
+run_legal guest asid m memory (a ∷ s) keeps = (
+  (step_fine guest asid m memory a keeps).legal,
+  run_legal guest asid (after m a) (used (next_use guest m a) memory) s (step_keeps guest asid m memory a keeps),
 )
 
 -- two guests have two ASIDs
@@ -128,26 +129,26 @@ actors_own c guest frames [] k sound some most all = tt
 actors_own c guest frames (actor ∷ actors) zero sound some most all = declared_owns c guest frames actor.role sound some most all.0.role
 actors_own c guest frames (actor ∷ actors) (suc k) sound some most all = actors_own c guest frames actors k sound some most all.1
 
-pub opening_keeps : (c : Scenario) (guest : ℕ) (archive : Archive) → IsSound c → 0 < guest → guest ≤ length c.guests
-    → Keeps guest (asid_of c.guests guest) archive (opening c) (opening_memory c guest)
+pub opening_keeps : (c : Scenario) (guest : ℕ) → IsSound c → 0 < guest → guest ≤ length c.guests
+    → Keeps guest (asid_of c.guests guest) (opening c) (opening_memory c guest)
 unfolding opening opening_memory
-opening_keeps c guest archive sound some most = record {
-  core = opening_core c.guests guest c.pages (words_from (λ _. zero_words) c.words) archive
+opening_keeps c guest sound some most = record {
+  core = opening_core c.guests guest c.pages (words_from (λ _. zero_words) c.words)
       (pages_apart c guest sound some most _ c.pages sound.pages) (ranges_apart _ (length c.guests) c.pages sound.pages sound.gpns_differ);
   whole = opening_whole c.words;
   owns = λ actor. actors_own c guest _ c.actors (actor - 1) sound some most sound.actors;
 }
 
 -- in each state of a run each page of a declared guest has at most one holder, with the words of the guest's memory
-pub state_keeps_core : (c : Scenario) (s : List ℕ) (archive : Archive) → IsSound c → (guest : ℕ) → 0 < guest → guest ≤ length c.guests
-    → Core (state_after c s).contents.pages archive (asid_of c.guests guest) (memory_after c s guest)
-state_keeps_core c s archive sound guest some most =
-    (run_keeps guest (asid_of c.guests guest) archive (opening c) (opening_memory c guest) s (opening_keeps c guest archive sound some most)).core
+pub state_keeps_core : (c : Scenario) (s : List ℕ) → IsSound c → (guest : ℕ) → 0 < guest → guest ≤ length c.guests
+    → Core (state_after c s).contents.pages (asid_of c.guests guest) (memory_after c s guest)
+state_keeps_core c s sound guest some most =
+    (run_keeps guest (asid_of c.guests guest) (opening c) (opening_memory c guest) s (opening_keeps c guest sound some most)).core
 
 -- and each declared guest's private accesses are one legal history of its memory
 pub guest_memory_legal : (c : Scenario) (s : List ℕ) → IsSound c → IsDefined c s → (guest : ℕ) → 0 < guest → guest ≤ length c.guests → IsLegal c s guest
 guest_memory_legal c s sound defined guest some most =
-    run_legal guest (asid_of c.guests guest) (λ _ _. None) (opening c) (opening_memory c guest) s (opening_keeps c guest (λ _ _. None) sound some most)
+    run_legal guest (asid_of c.guests guest) (opening c) (opening_memory c guest) s (opening_keeps c guest sound some most)
 
 pub guests_are_legal : (c : Scenario) (s : List ℕ) → IsSound c → IsDefined c s → AreLegal c s
 guests_are_legal c s sound defined guest some most = guest_memory_legal c s sound defined guest some most

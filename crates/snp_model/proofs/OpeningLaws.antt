@@ -15,7 +15,7 @@ use Rattle.snp_model.specs.State.{Pages, zero_words}
 use Rattle.snp_model.specs.Sound.{Pairwise}
 use Rattle.snp_model.specs.Opening.{frames_in, asid_of, page_facts, with_page, facts_from, with_word_spec, words_from, opening_context}
 use Rattle.snp_model.specs.GuestMemory.{Memory, IsHeld, known, with_frames, with_line, with_lines}
-use Rattle.snp_model.specs.Holders.{Holder, InFrame, InEntry, Archive, IsHeldAs, Holds, held_words, Core}
+use Rattle.snp_model.specs.Holders.{Holder, InFrame, IsHeldAs, Holds, held_words, Core}
 use Rattle.snp_model.proofs.CoreLaws.{core_shrinks}
 use Rattle.snp_model.proofs.MemoryLaws.{with_frames_holds, with_frames_keeps, with_frames_known, known_before, empty_known}
 
@@ -84,24 +84,20 @@ none_new guests guest page facts q f apart none =
 holds_before : (guests : List GuestSpec) (guest : ℕ) (page : PageSpec) (facts : ℕ → RmpEntry) (words : ℕ → List ℕ) → IsApartFrom guests guest page → (page.valid && eqb page.guest guest) ≡ false
     → (q : ℕ) (x : Holder) → Holds (pages_with (with_page guests page facts) words) (asid_of guests guest) q x → Holds (pages_with facts words) (asid_of guests guest) q x
 holds_before guests guest page facts words apart none q (InFrame f) h = none_new guests guest page facts q f apart none h
-holds_before guests guest page facts words apart none q (InEntry f e) h = h
 
-same_words : (old new : ℕ → RmpEntry) (words : ℕ → List ℕ) (archive : Archive) (x : Holder) (index : ℕ)
-    → get_or (held_words (pages_with new words) archive x) index 0 ≡ get_or (held_words (pages_with old words) archive x) index 0
-same_words old new words archive (InFrame f) index = refl
-same_words old new words archive (InEntry f e) index = refl
+same_words : (old new : ℕ → RmpEntry) (words : ℕ → List ℕ) (x : Holder) (index : ℕ)
+    → get_or (held_words (pages_with new words) x) index 0 ≡ get_or (held_words (pages_with old words) x) index 0
+same_words old new words (InFrame f) index = refl
 
 -- a valid page line of the guest
 outside_held : (page : PageSpec) (guest q : ℕ) (memory : Memory) → page.guest ≡ guest → IsLacking guest memory page → IsHeld memory q → in_range page.gpn (frames_in page.size) q ≡ false
 outside_held page guest q memory mine lacking held =
     ⊎_elim (λ (inside : in_range page.gpn (frames_in page.size) q ≡ true). absurd (held (lacking.lacks q mine inside))) (λ outside. outside) (cases_Bool (in_range page.gpn (frames_in page.size) q))
 
-new_unique : (guests : List GuestSpec) (guest : ℕ) (page : PageSpec) (facts : ℕ → RmpEntry) (words : ℕ → List ℕ) (archive : Archive) (memory : Memory)
-    → page.guest ≡ guest → IsLacking guest memory page → Core (pages_with facts words) archive (asid_of guests guest) memory
+new_unique : (guests : List GuestSpec) (guest : ℕ) (page : PageSpec) (facts : ℕ → RmpEntry) (words : ℕ → List ℕ) (memory : Memory)
+    → page.guest ≡ guest → IsLacking guest memory page → Core (pages_with facts words) (asid_of guests guest) memory
     → (q : ℕ) (x y : Holder) → Holds (pages_with (with_page guests page facts) words) (asid_of guests guest) q x → Holds (pages_with (with_page guests page facts) words) (asid_of guests guest) q y → x ≡ y
-new_unique guests guest page facts words archive memory mine lacking core q (InEntry f e) y hx hy = absurd hx
-new_unique guests guest page facts words archive memory mine lacking core q (InFrame f) (InEntry g e) hx hy = absurd hy
-new_unique guests guest page facts words archive memory mine lacking core q (InFrame f) (InFrame g) hx hy =
+new_unique guests guest page facts words memory mine lacking core q (InFrame f) (InFrame g) hx hy =
     let asid = asid_of guests guest in
     let fresh = λ (k l : ℕ) (a : IsNewAt page q k) (b : IsHeldAs (facts l) asid q). core.held q (InFrame l) b (lacking.lacks q mine a.inside) in
     ⊎_elim
@@ -111,13 +107,12 @@ new_unique guests guest page facts words archive memory mine lacking core q (InF
     ⊎_elim (λ (b : IsNewAt page q g). absurd (fresh g f b a)) (λ (b : IsHeldAs (facts g) asid q). core.unique q (InFrame f) (InFrame g) a b) (new_or_before guests page facts asid q g hy))
     (new_or_before guests page facts asid q f hx)
 
-new_agree : (guests : List GuestSpec) (guest : ℕ) (page : PageSpec) (facts : ℕ → RmpEntry) (words : ℕ → List ℕ) (archive : Archive) (memory : Memory)
-    → page.guest ≡ guest → IsLacking guest memory page → Core (pages_with facts words) archive (asid_of guests guest) memory
+new_agree : (guests : List GuestSpec) (guest : ℕ) (page : PageSpec) (facts : ℕ → RmpEntry) (words : ℕ → List ℕ) (memory : Memory)
+    → page.guest ≡ guest → IsLacking guest memory page → Core (pages_with facts words) (asid_of guests guest) memory
     → (q : ℕ) (x : Holder) (index word : ℕ) → Holds (pages_with (with_page guests page facts) words) (asid_of guests guest) q x
     → known (with_frames words page.frame page.gpn (frames_in page.size) memory) q index ≡ Some word
-    → get_or (held_words (pages_with (with_page guests page facts) words) archive x) index 0 ≡ word
-new_agree guests guest page facts words archive memory mine lacking core q (InEntry f e) index word hx k = absurd hx
-new_agree guests guest page facts words archive memory mine lacking core q (InFrame f) index word hx k =
+    → get_or (held_words (pages_with (with_page guests page facts) words) x) index 0 ≡ word
+new_agree guests guest page facts words memory mine lacking core q (InFrame f) index word hx k =
     let asid = asid_of guests guest in
     let n = frames_in page.size in
     ⊎_elim
@@ -128,12 +123,11 @@ new_agree guests guest page facts words archive memory mine lacking core q (InFr
     core.agree q (InFrame f) index word a (known_before words n page.frame page.gpn memory q index word outside k))
     (new_or_before guests page facts asid q f hx)
 
-new_held : (guests : List GuestSpec) (guest : ℕ) (page : PageSpec) (facts : ℕ → RmpEntry) (words : ℕ → List ℕ) (archive : Archive) (memory : Memory)
-    → page.guest ≡ guest → IsLacking guest memory page → Core (pages_with facts words) archive (asid_of guests guest) memory
+new_held : (guests : List GuestSpec) (guest : ℕ) (page : PageSpec) (facts : ℕ → RmpEntry) (words : ℕ → List ℕ) (memory : Memory)
+    → page.guest ≡ guest → IsLacking guest memory page → Core (pages_with facts words) (asid_of guests guest) memory
     → (q : ℕ) (x : Holder) → Holds (pages_with (with_page guests page facts) words) (asid_of guests guest) q x
     → IsHeld (with_frames words page.frame page.gpn (frames_in page.size) memory) q
-new_held guests guest page facts words archive memory mine lacking core q (InEntry f e) hx = absurd hx
-new_held guests guest page facts words archive memory mine lacking core q (InFrame f) hx =
+new_held guests guest page facts words memory mine lacking core q (InFrame f) hx =
     let asid = asid_of guests guest in
     let n = frames_in page.size in
     ⊎_elim
@@ -145,23 +139,23 @@ new_held guests guest page facts words archive memory mine lacking core q (InFra
     (new_or_before guests page facts asid q f hx)
 
 -- one more page line
-line_core : (guests : List GuestSpec) (guest : ℕ) (page : PageSpec) (facts : ℕ → RmpEntry) (words : ℕ → List ℕ) (archive : Archive) (memory : Memory)
-    → IsApartFrom guests guest page → IsLacking guest memory page → Core (pages_with facts words) archive (asid_of guests guest) memory
-    → Core (pages_with (with_page guests page facts) words) archive (asid_of guests guest) (with_line guest words page memory)
+line_core : (guests : List GuestSpec) (guest : ℕ) (page : PageSpec) (facts : ℕ → RmpEntry) (words : ℕ → List ℕ) (memory : Memory)
+    → IsApartFrom guests guest page → IsLacking guest memory page → Core (pages_with facts words) (asid_of guests guest) memory
+    → Core (pages_with (with_page guests page facts) words) (asid_of guests guest) (with_line guest words page memory)
 unfolding with_line
-line_core guests guest page facts words archive memory apart lacking core =
+line_core guests guest page facts words memory apart lacking core =
     let new = pages_with (with_page guests page facts) words in
     let asid = asid_of guests guest in
-    cond_both (page.valid && eqb page.guest guest) _ _ (Core new archive asid)
+    cond_both (page.valid && eqb page.guest guest) _ _ (Core new asid)
     (λ gives.
     let mine = eqb-true page.guest guest (and_parts page.valid (eqb page.guest guest) gives).1 in
     record {
-      unique = new_unique guests guest page facts words archive memory mine lacking core;
-      held = new_held guests guest page facts words archive memory mine lacking core;
-      agree = new_agree guests guest page facts words archive memory mine lacking core;
+      unique = new_unique guests guest page facts words memory mine lacking core;
+      held = new_held guests guest page facts words memory mine lacking core;
+      agree = new_agree guests guest page facts words memory mine lacking core;
     })
-    (λ none. core_shrinks (pages_with facts words) new archive asid memory (holds_before guests guest page facts words apart none)
-    (λ q x index h. same_words facts (with_page guests page facts) words archive x index) core)
+    (λ none. core_shrinks (pages_with facts words) new asid memory (holds_before guests guest page facts words apart none)
+    (λ q x index h. same_words facts (with_page guests page facts) words x index) core)
 
 -- the page lines after it still find nothing held
 still_lacking : (guest : ℕ) (words : ℕ → List ℕ) (page other : PageSpec) (memory : Memory) → RangesApart page other → IsLacking guest memory other → IsLacking guest (with_line guest words page memory) other
@@ -186,16 +180,16 @@ still_lacking_all guest words page (other ∷ others) memory apart lacking =
     (still_lacking guest words page other memory apart.0 lacking.0, still_lacking_all guest words page others memory apart.1 lacking.1)
 
 -- all page lines
-lines_core : (guests : List GuestSpec) (guest : ℕ) (lines : List PageSpec) (facts : ℕ → RmpEntry) (words : ℕ → List ℕ) (archive : Archive) (memory : Memory)
+lines_core : (guests : List GuestSpec) (guest : ℕ) (lines : List PageSpec) (facts : ℕ → RmpEntry) (words : ℕ → List ℕ) (memory : Memory)
     → AllByRecursion (IsApartFrom guests guest) lines → Pairwise RangesApart lines → AllByRecursion (IsLacking guest memory) lines
-    → Core (pages_with facts words) archive (asid_of guests guest) memory
-    → Core (pages_with (facts_from guests facts lines) words) archive (asid_of guests guest) (with_lines guest words lines memory)
+    → Core (pages_with facts words) (asid_of guests guest) memory
+    → Core (pages_with (facts_from guests facts lines) words) (asid_of guests guest) (with_lines guest words lines memory)
 unfolding facts_from with_lines
-lines_core guests guest [] facts words archive memory apart ranges lacking core = core
-lines_core guests guest (page ∷ pages) facts words archive memory apart ranges lacking core =
-    lines_core guests guest pages (with_page guests page facts) words archive (with_line guest words page memory) apart.1 ranges.1
+lines_core guests guest [] facts words memory apart ranges lacking core = core
+lines_core guests guest (page ∷ pages) facts words memory apart ranges lacking core =
+    lines_core guests guest pages (with_page guests page facts) words (with_line guest words page memory) apart.1 ranges.1
     (still_lacking_all guest words page pages memory ranges.0 lacking.1)
-    (line_core guests guest page facts words archive memory apart.0 lacking.0 core)
+    (line_core guests guest page facts words memory apart.0 lacking.0 core)
 
 -- no frame is assigned, and no page is held, before the page lines
 free_holds : (asid gpn : ℕ) → IsHeldAs free_entry asid gpn → ⊥
@@ -204,10 +198,9 @@ free_holds asid gpn h = true≢false (sym h.assigned)
 
 none_holds : (words : ℕ → List ℕ) (asid gpn : ℕ) (x : Holder) → Holds (pages_with (λ _. free_entry) words) asid gpn x → ⊥
 none_holds words asid gpn (InFrame f) h = free_holds asid gpn h
-none_holds words asid gpn (InEntry f e) h = h
 
-free_core : (words : ℕ → List ℕ) (archive : Archive) (asid : ℕ) (memory : Memory) → Core (pages_with (λ _. free_entry) words) archive asid memory
-free_core words archive asid memory = record {
+free_core : (words : ℕ → List ℕ) (asid : ℕ) (memory : Memory) → Core (pages_with (λ _. free_entry) words) asid memory
+free_core words asid memory = record {
   unique = λ gpn x y hx hy. absurd (none_holds words asid gpn x hx);
   held = λ gpn x h. absurd (none_holds words asid gpn x h);
   agree = λ gpn x index word h k. absurd (none_holds words asid gpn x h);
@@ -217,11 +210,11 @@ none_lacking : (guest : ℕ) (lines : List PageSpec) → AllByRecursion (IsLacki
 none_lacking guest [] = tt
 none_lacking guest (page ∷ pages) = (record { lacks = λ q mine inside. empty_known q }, none_lacking guest pages)
 
-pub opening_core : (guests : List GuestSpec) (guest : ℕ) (lines : List PageSpec) (words : ℕ → List ℕ) (archive : Archive)
+pub opening_core : (guests : List GuestSpec) (guest : ℕ) (lines : List PageSpec) (words : ℕ → List ℕ)
     → AllByRecursion (IsApartFrom guests guest) lines → Pairwise RangesApart lines
-    → Core (pages_with (facts_from guests (λ _. free_entry) lines) words) archive (asid_of guests guest) (with_lines guest words lines empty)
-opening_core guests guest lines words archive apart ranges =
-    lines_core guests guest lines (λ _. free_entry) words archive empty apart ranges (none_lacking guest lines) (free_core words archive (asid_of guests guest) empty)
+    → Core (pages_with (facts_from guests (λ _. free_entry) lines) words) (asid_of guests guest) (with_lines guest words lines empty)
+opening_core guests guest lines words apart ranges =
+    lines_core guests guest lines (λ _. free_entry) words empty apart ranges (none_lacking guest lines) (free_core words (asid_of guests guest) empty)
 
 -- every frame has its 512 words
 zero_length : length zero_words ≡ 512

@@ -1,6 +1,6 @@
 -- A run has at most 32 events for each attempt: each event leaves less room.
 use Rattle.std.proofs.Common.{◌≡◌, ℕ, zero, suc, ◌+◌, ◌-◌, ◌*◌, ◌/◌, ◌<◌, ◌≤◌, Bool, true, false, not, ◌&&◌, ◌||◌, nat_lt, List, [], ◌∷◌, ◌++◌, length, map, get_or, set, drop, Option, Some, None, refl, sym, ap, ◌∙◌, subst, ⊎_elim, arith}
-use Rattle.std.proofs.lemmas.Bool.{cond_both, ltb-true, true≢false, cases_eq}
+use Rattle.std.proofs.lemmas.Bool.{cond_both, ltb-true, and_parts, cases_eq}
 use Rattle.std.proofs.lemmas.List.{append-nil, length_push, drop-drop}
 use Rattle.std.proofs.lemmas.List.Elements.{All-set, All-map}
 use Rattle.snp_model.specs.declared.entry.PageSize.{PageSize}
@@ -13,6 +13,7 @@ use Rattle.snp_model.specs.declared.item.Line.{Line}
 use Rattle.snp_model.specs.declared.walk.GuestPath.{GuestPath}
 use Rattle.snp_model.specs.declared.walk.GuestEnd.{GuestEnd}
 use Rattle.snp_model.specs.declared.walk.GuestEnd.TheVariants as guest_ends
+use Rattle.snp_model.specs.declared.walk.Lookup.{Lookup}
 use Rattle.snp_model.specs.declared.walk.Need.{Need}
 use Rattle.snp_model.specs.declared.walk.Need.TheVariants as needs
 use Rattle.snp_model.specs.declared.walk.NestedPath.{NestedPath}
@@ -27,16 +28,17 @@ use Rattle.snp_model.specs.Verdicts.{host_verdict}
 use Rattle.snp_model.specs.declared.access.Verdict.{Verdict}
 use Rattle.snp_model.specs.declared.access.Verdict.TheVariants.{Pass, Hidden, Fault}
 use Rattle.snp_model.specs.declared.item.Item.{Item}
-use Rattle.snp_model.specs.declared.item.Item.TheVariants.{Access, Skip}
+use Rattle.snp_model.specs.declared.item.Item.TheVariants as items
 use Rattle.snp_model.specs.declared.item.Op.{Op}
 use Rattle.snp_model.specs.declared.scenario.GuestSpec.{GuestSpec}
 use Rattle.snp_model.specs.declared.scenario.Paging.{Paging}
-use Rattle.snp_model.specs.declared.scenario.Paging.TheVariants.{Flat, Four}
+use Rattle.snp_model.specs.declared.scenario.Paging.TheVariants.{Flat, Four, Five}
 use Rattle.snp_model.specs.declared.scenario.Role.{Role}
-use Rattle.snp_model.specs.declared.scenario.Role.TheVariants.{Cpu, Host}
-use Rattle.snp_model.specs.Step.{Position, Move, step_of, after, part_after, position_after, tries_again, passed_over, item_move, line_at, is_running, quiet_move, unbuilt_move, access_move, begin_move, table_move, need_move, cpu_access, host_access, table_word}
-use Rattle.snp_model.specs.GuestWalk.{is_canonical, is_private_leaf, gpn_below, guest_fault, after_guest_word, guest_walk_from, first_guest_read}
-use Rattle.snp_model.specs.Walking.{Processor, guest_words, nested_words_after, nested_words, guest_path, guest_stands, table_path, data_path, table_need, data_need, walk_need, need_after, index_of}
+use Rattle.snp_model.specs.declared.scenario.Role.TheVariants.{Cpu, Host, Firmware}
+use Rattle.snp_model.specs.Step.{Position, Move, Arrival, step_of, after, part_after, position_after, tries_again, passed_over, item_move, line_at, is_running, quiet_move, unbuilt_move, misplaced_move, faulted_move, access_move, begin_move, table_move, need_move, walked_move, data_move, host_access, table_word}
+use Rattle.snp_model.specs.Outcomes.{is_in_use}
+use Rattle.snp_model.specs.GuestWalk.{levels_of, is_canonical, is_private_leaf, gpn_below, guest_fault, after_guest_word, guest_walk_from, first_guest_read, guest_end}
+use Rattle.snp_model.specs.Walking.{Processor, lookup_of, counting, guest_words, nested_words_after, nested_words, guest_path, guest_stands, table_path, data_path, table_need, data_need, walk_need, need_after, index_of}
 use Rattle.snp_model.specs.Opening.{opening, opening_part}
 use Rattle.snp_model.specs.Run.{state_from, state_after, IsDefinedFrom, IsDefined}
 use Rattle.snp_model.specs.Attempts.{script_attempts, actors_attempts, attempts_of}
@@ -76,9 +78,7 @@ line_closes l ls attempt made n within short = let start = lines_start (drop n l
 
 -- an outcome that leaves retries is tried again
 again_within : (line : Line) (attempt : ℕ) (outcome : Outcome) → tries_again line attempt outcome ≡ true → attempt < line.retries
-again_within line attempt (outcomes.StatusInUse holder) e = ltb-true attempt line.retries e
-again_within line attempt (outcomes.FirmwareInUse holder) e = ltb-true attempt line.retries e
-again_within line attempt outcome e = absurd (true≢false (sym e))
+again_within line attempt outcome e = ltb-true attempt line.retries (and_parts (is_in_use outcome) (nat_lt attempt line.retries) e).1
 
 -- what is left at the place after an attempt, of which some events were made
 record LeavesLess (script : List Line) (at : Position) (made : ℕ) (q : Position) : Type 0 where
@@ -202,36 +202,45 @@ data_reads gpn private (ends.Read f i) frame place e = (f, i, refl)
 data_reads gpn private (ends.Leaf f s) frame place e = cc
 data_reads gpn private (ends.Fault c) frame place e = cc
 
-nested_few : (frames npt : ℕ) (op : Op) (stands : GuestEnd) (words : List ℕ) (frame place : ℕ) → walk_need frames npt op stands words ≡ needs.Nested frame place → length words < 4
+nested_few : (frames npt : ℕ) (lookup : Lookup) (stands : GuestEnd) (words : List ℕ) (frame place : ℕ) → walk_need frames npt lookup stands words ≡ needs.Nested frame place → length words < 4
 unfolding walk_need
-nested_few frames npt op (guest_ends.Read gpn index) words frame place e =
+nested_few frames npt lookup (guest_ends.Read gpn index) words frame place e =
     let path = table_path frames npt gpn in
     let read = table_reads gpn index (nested_end path words) frame place e in
     walk_reads path words 4 (first_read path) read.0 read.1 (omega arith) read.2
-nested_few frames npt op (guest_ends.Leaf gpn private size) words frame place e =
-    let path = data_path frames npt gpn private op in
+nested_few frames npt lookup (guest_ends.Leaf gpn private size) words frame place e =
+    let path = data_path frames npt gpn private lookup in
     let read = data_reads gpn private (nested_end path words) frame place e in
     walk_reads path words 4 (first_read path) read.0 read.1 (omega arith) read.2
-nested_few frames npt op (guest_ends.Fault code) words frame place e = cc
+nested_few frames npt lookup (guest_ends.Fault code) words frame place e = cc
 
--- one that needs a word of a guest table has read fewer than four of these
+-- one that needs a word of a guest table has read fewer of these than it has levels, which are five at most
 data_is_no_table : (gpn : ℕ) (private : Bool) (stands : NestedEnd) (g i f : ℕ) (s : PageSize) → data_need gpn private stands ≡ needs.Table g i f s → ⊥
 data_is_no_table gpn private (ends.Read frame place) g i f s e = cc
 data_is_no_table gpn private (ends.Leaf frame size) g i f s e = cc
 data_is_no_table gpn private (ends.Fault code) g i f s e = cc
 
-table_stands : (frames npt : ℕ) (op : Op) (stands : GuestEnd) (words : List ℕ) (g i f : ℕ) (s : PageSize) → walk_need frames npt op stands words ≡ needs.Table g i f s → IsGuestRead stands
+table_stands : (frames npt : ℕ) (lookup : Lookup) (stands : GuestEnd) (words : List ℕ) (g i f : ℕ) (s : PageSize) → walk_need frames npt lookup stands words ≡ needs.Table g i f s → IsGuestRead stands
 unfolding walk_need
-table_stands frames npt op (guest_ends.Read gpn index) words g i f s e = (gpn, index, refl)
-table_stands frames npt op (guest_ends.Leaf gpn private size) words g i f s e = absurd (data_is_no_table gpn private _ g i f s e)
-table_stands frames npt op (guest_ends.Fault code) words g i f s e = cc
+table_stands frames npt lookup (guest_ends.Read gpn index) words g i f s e = (gpn, index, refl)
+table_stands frames npt lookup (guest_ends.Leaf gpn private size) words g i f s e = absurd (data_is_no_table gpn private _ g i f s e)
+table_stands frames npt lookup (guest_ends.Fault code) words g i f s e = cc
 
-tables_few : (paging : Paging) (address : ℕ) (op : Op) (words : List ℕ) → IsGuestRead (guest_stands paging address op words) → length words < 4
+counted_read : (c_bit : Bool) (stands : GuestEnd) → IsGuestRead (counting c_bit stands) → IsGuestRead stands
+counted_read c_bit (guest_ends.Read gpn index) read = (gpn, index, refl)
+counted_read c_bit (guest_ends.Leaf gpn private size) read = absurd ((guest_leaf_is_no_read _ _ _ read.0 read.1).reads_not read.2)
+counted_read c_bit (guest_ends.Fault code) read = let e = read.2 in cc
+
+path_few : (path : GuestPath) (c_bit : Bool) (words : List ℕ) → 0 < path.levels → IsGuestRead (counting c_bit (guest_end path words)) → length words < path.levels
+path_few path c_bit words some read =
+    let at = counted_read c_bit (guest_end path words) read in
+    guest_walk_reads path words path.levels (first_guest_read path) at.0 at.1 some at.2
+
+tables_few : (paging : Paging) (lookup : Lookup) (words : List ℕ) → IsGuestRead (guest_stands paging lookup words) → length words < 5
 unfolding guest_stands
-tables_few Flat address op words read = absurd ((guest_leaf_is_no_read _ _ _ read.0 read.1).reads_not read.2)
-tables_few (Four root) address op words read =
-    let path = guest_path root address op in
-    guest_walk_reads path words 4 (first_guest_read path) read.0 read.1 (omega arith) read.2
+tables_few Flat lookup words read = absurd ((guest_leaf_is_no_read _ _ _ read.0 read.1).reads_not read.2)
+tables_few (Four root) lookup words read = let few = path_few (guest_path (Four root) root lookup) lookup.c_bit words (omega arith) read in omega arith
+tables_few (Five root) lookup words read = path_few (guest_path (Five root) root lookup) lookup.c_bit words (omega arith) read
 
 -- the words that deeds have read
 pub guest_words_append : (a b : List Deed) → guest_words (a ++ b) ≡ guest_words a ++ guest_words b
@@ -274,7 +283,7 @@ short_more ds f i v short few =
     let few_tables = short.few_tables in
     record { walked = omega arith; few_tables = omega arith; few = omega arith }
 
-short_table : (ds : List Deed) (g i f v : ℕ) → IsShort ds → length (guest_words ds) < 4 → IsShort (ds ++ deeds.Table g i f (Some v) ∷ [])
+short_table : (ds : List Deed) (g i f v : ℕ) → IsShort ds → length (guest_words ds) < 5 → IsShort (ds ++ deeds.Table g i f (Some v) ∷ [])
 short_table ds g i f v short more =
     let nested = ap length (nested_words_anew ds g i f (Some v)) in
     let tables = ap length (guest_words_more ds g i f v) ∙ length_push (guest_words ds) v in
@@ -294,6 +303,12 @@ record LeavesShort (part : ActorPart) (move : Move) : Type 0 where
 unbuilt_short : (contents : Contents) (part : ActorPart) → LeavesShort part (unbuilt_move contents part)
 unbuilt_short contents part = record { open_is = λ none. cc }
 
+misplaced_short : (contents : Contents) (part : ActorPart) → LeavesShort part (misplaced_move contents part)
+misplaced_short contents part = record { open_is = λ none. cc }
+
+faulted_short : (contents : Contents) (part : ActorPart) → LeavesShort part (faulted_move contents part)
+faulted_short contents part = record { open_is = λ none. cc }
+
 access_short : (contents : Contents) (part : ActorPart) (deed : Deed) (verdict : Verdict) (op : Op) (frame index : ℕ) → LeavesShort part (access_move contents part deed verdict op frame index)
 unfolding access_move
 access_short contents part deed Pass op frame index = record { open_is = λ none. cc }
@@ -303,50 +318,75 @@ access_short contents part deed (Fault outcome) op frame index = record { open_i
 quiet_begun : (contents : Contents) (part : ActorPart) (outcome : Option Outcome) → part.deeds ≡ [] → LeavesShort part (quiet_move contents part deeds.Begin outcome)
 quiet_begun contents part outcome none = record { open_is = λ _. short_begun part.deeds none }
 
-begin_short : (contents : Contents) (part : ActorPart) (context : Context) (address : ℕ) → part.deeds ≡ [] → LeavesShort part (begin_move contents part context address)
+begin_short : (contents : Contents) (part : ActorPart) (context : Context) (levels address : ℕ) (refusal : Option Outcome) → part.deeds ≡ [] → LeavesShort part (begin_move contents part context levels address refusal)
 unfolding begin_move
-begin_short contents part context address none =
+begin_short contents part context levels address refusal none =
     let begun = λ (outcome : Option Outcome). quiet_begun contents part outcome none in
     cond_both (not (is_running context.state)) _ _ (LeavesShort part) (λ _. begun (Some outcomes.Offline))
-    (λ _. cond_both (not (is_canonical address)) _ _ (LeavesShort part) (λ _. begun (Some outcomes.Gp)) (λ _. begun None))
+    (λ _. cond_both (not (is_canonical levels address)) _ _ (LeavesShort part) (λ _. begun (Some outcomes.Gp)) (λ _. begun refusal))
 
-table_short : (frames : ℕ) (contents : Contents) (part : ActorPart) (cpu : Processor) (address : ℕ) (op : Op) (verdict : Verdict) (gpn index frame : ℕ)
-    → length (guest_words part.deeds) < 4 → IsShort part.deeds → LeavesShort part (table_move frames contents part cpu address op verdict gpn index frame)
+table_short : (frames : ℕ) (contents : Contents) (part : ActorPart) (cpu : Processor) (lookup : Lookup) (verdict : Verdict) (gpn index frame : ℕ)
+    → length (guest_words part.deeds) < 5 → IsShort part.deeds → LeavesShort part (table_move frames contents part cpu lookup verdict gpn index frame)
 unfolding table_move
-table_short frames contents part cpu address op Pass gpn index frame more short = record { open_is = λ _. short_table part.deeds gpn index frame _ short more }
-table_short frames contents part cpu address op Hidden gpn index frame more short = record { open_is = λ none. cc }
-table_short frames contents part cpu address op (Fault outcome) gpn index frame more short = record { open_is = λ none. cc }
+table_short frames contents part cpu lookup Pass gpn index frame more short = record { open_is = λ _. short_table part.deeds gpn index frame _ short more }
+table_short frames contents part cpu lookup Hidden gpn index frame more short = record { open_is = λ none. cc }
+table_short frames contents part cpu lookup (Fault outcome) gpn index frame more short = record { open_is = λ none. cc }
 
-need_short : (frames : ℕ) (guests : List GuestSpec) (contents : Contents) (part : ActorPart) (cpu : Processor) (address : ℕ) (op : Op) (need : Need)
-    → need_after frames cpu address op part.deeds ≡ need → IsShort part.deeds → LeavesShort part (need_move frames guests contents part cpu address op need)
-unfolding need_move
-need_short frames guests contents part cpu address op (needs.Nested frame index) is short =
-    let few = nested_few frames cpu.npt op (guest_stands cpu.paging address op (guest_words part.deeds)) (nested_words part.deeds) frame index is in
-    record { open_is = λ _. short_more part.deeds frame index (table_word (contents.pages frame) index) short few }
-need_short frames guests contents part cpu address op (needs.Table gpn index frame size) is short =
-    let stands = guest_stands cpu.paging address op (guest_words part.deeds) in
-    let read = table_stands frames cpu.npt op stands (nested_words part.deeds) gpn index frame size is in
-    table_short frames contents part cpu address op _ gpn index frame (tables_few cpu.paging address op (guest_words part.deeds) read) short
-need_short frames guests contents part cpu address op (needs.Data gpn private frame size) is short =
+-- so what an item does at its page
+abbrev ArrivesShort : ActorPart → Arrival → Type 0
+ArrivesShort part arrives = (gpn : ℕ) (private : Bool) (frame : ℕ) (size : PageSize) → LeavesShort part (arrives gpn private frame size)
+
+data_short : (guests : List GuestSpec) (contents : Contents) (part : ActorPart) (cpu : Processor) (address : ℕ) (op : Op) → ArrivesShort part (data_move guests contents part cpu address op)
+data_short guests contents part cpu address op gpn private frame size =
     access_short contents part (deeds.Access gpn (index_of address) frame private) _ op frame (index_of address)
-need_short frames guests contents part cpu address op (needs.Fault outcome) is short = unbuilt_short contents part
 
-cpu_access_short : (frames : ℕ) (guests : List GuestSpec) (contents : Contents) (part : ActorPart) (cpu : Processor) (address : ℕ) (op : Op) (made : List Deed)
-    → part.deeds ≡ made → IsShort part.deeds → LeavesShort part (cpu_access frames guests contents part cpu address op made)
-unfolding cpu_access
-cpu_access_short frames guests contents part cpu address op [] is short = begin_short contents part (contents.contexts cpu.guest) address is
-cpu_access_short frames guests contents part cpu address op (deed ∷ others) is short =
-    need_short frames guests contents part cpu address op _ (ap (λ (ds : List Deed). need_after frames cpu address op ds) is) short
+need_short : (frames : ℕ) (guests : List GuestSpec) (contents : Contents) (part : ActorPart) (cpu : Processor) (lookup : Lookup) (arrives : Arrival) (need : Need)
+    → ArrivesShort part arrives → need_after frames cpu lookup part.deeds ≡ need → IsShort part.deeds → LeavesShort part (need_move frames guests contents part cpu lookup arrives need)
+unfolding need_move
+need_short frames guests contents part cpu lookup arrives (needs.Nested frame index) arrived is short =
+    let few = nested_few frames cpu.npt lookup (guest_stands cpu.paging lookup (guest_words part.deeds)) (nested_words part.deeds) frame index is in
+    record { open_is = λ _. short_more part.deeds frame index (table_word (contents.pages frame) index) short few }
+need_short frames guests contents part cpu lookup arrives (needs.Table gpn index frame size) arrived is short =
+    let stands = guest_stands cpu.paging lookup (guest_words part.deeds) in
+    let read = table_stands frames cpu.npt lookup stands (nested_words part.deeds) gpn index frame size is in
+    table_short frames contents part cpu lookup _ gpn index frame (tables_few cpu.paging lookup (guest_words part.deeds) read) short
+need_short frames guests contents part cpu lookup arrives (needs.Data gpn private frame size) arrived is short = arrived gpn private frame size
+need_short frames guests contents part cpu lookup arrives (needs.Fault outcome) arrived is short = faulted_short contents part
+
+walked_short : (frames : ℕ) (guests : List GuestSpec) (contents : Contents) (part : ActorPart) (cpu : Processor) (lookup : Lookup) (refusal : Option Outcome) (arrives : Arrival) (made : List Deed)
+    → ArrivesShort part arrives → part.deeds ≡ made → IsShort part.deeds → LeavesShort part (walked_move frames guests contents part cpu lookup refusal arrives made)
+unfolding walked_move
+walked_short frames guests contents part cpu lookup refusal arrives [] arrived is short = begin_short contents part (contents.contexts cpu.guest) (levels_of cpu.paging) lookup.address refusal is
+walked_short frames guests contents part cpu lookup refusal arrives (deed ∷ others) arrived is short =
+    need_short frames guests contents part cpu lookup arrives _ arrived (ap (λ (ds : List Deed). need_after frames cpu lookup ds) is) short
 
 -- so each item's move
 move_short : (frames : ℕ) (guests : List GuestSpec) (view : View) (part : ActorPart) (role : Role) (item : Item) → IsShort part.deeds → LeavesShort part (item_move frames guests view part role item)
 unfolding item_move host_access
-move_short frames guests view part (Cpu guest vmpl npt paging) (Access address op) short =
-    cpu_access_short frames guests view.contents part (record { guest = guest; vmpl = vmpl; npt = npt; paging = paging }) address op part.deeds refl short
-move_short frames guests view part Host (Access address op) short =
+move_short frames guests view part (Cpu guest vmpl npt paging) (items.Access address op) short =
+    let cpu : Processor = record { guest = guest; vmpl = vmpl; npt = npt; paging = paging } in
+    walked_short frames guests view.contents part cpu (lookup_of address op) None _ part.deeds (data_short guests view.contents part cpu address op) refl short
+move_short frames guests view part (Cpu guest vmpl npt paging) (items.Pvalidate address size validate) short = unbuilt_short view.contents part
+move_short frames guests view part (Cpu guest vmpl npt paging) (items.Rmpadjust address size target mask vmsa) short = unbuilt_short view.contents part
+move_short frames guests view part (Cpu guest vmpl npt paging) (items.Rmpupdate update) short = misplaced_short view.contents part
+move_short frames guests view part (Cpu guest vmpl npt paging) (items.Psmash frame) short = misplaced_short view.contents part
+move_short frames guests view part (Cpu guest vmpl npt paging) (items.Firmware command) short = misplaced_short view.contents part
+move_short frames guests view part (Cpu guest vmpl npt paging) (items.Skip count test) short = record { open_is = λ none. cc }
+move_short frames guests view part Host (items.Access address op) short =
     access_short view.contents part (deeds.Host (address / 4096) (index_of address)) (host_verdict (view.contents.pages (address / 4096)).facts op) op (address / 4096) (index_of address)
-move_short frames guests view part role (Skip count test) short = record { open_is = λ none. cc }
-move_short frames guests view part role item short = unbuilt_short view.contents part
+move_short frames guests view part Host (items.Pvalidate address size validate) short = misplaced_short view.contents part
+move_short frames guests view part Host (items.Rmpadjust address size target mask vmsa) short = misplaced_short view.contents part
+move_short frames guests view part Host (items.Rmpupdate update) short = unbuilt_short view.contents part
+move_short frames guests view part Host (items.Psmash frame) short = unbuilt_short view.contents part
+move_short frames guests view part Host (items.Firmware command) short = misplaced_short view.contents part
+move_short frames guests view part Host (items.Skip count test) short = record { open_is = λ none. cc }
+move_short frames guests view part Firmware (items.Access address op) short = misplaced_short view.contents part
+move_short frames guests view part Firmware (items.Pvalidate address size validate) short = misplaced_short view.contents part
+move_short frames guests view part Firmware (items.Rmpadjust address size target mask vmsa) short = misplaced_short view.contents part
+move_short frames guests view part Firmware (items.Rmpupdate update) short = misplaced_short view.contents part
+move_short frames guests view part Firmware (items.Psmash frame) short = misplaced_short view.contents part
+move_short frames guests view part Firmware (items.Firmware command) short = unbuilt_short view.contents part
+move_short frames guests view part Firmware (items.Skip count test) short = record { open_is = λ none. cc }
 
 -- a short attempt has fewer deeds than an array of 32 holds, also with the next one
 pub deeds_short : (ds : List Deed) → IsShort ds → length ds < 32

@@ -31,7 +31,8 @@ use Rattle.snp_model.specs.declared.reading.Quantity.{Quantity}
 use Rattle.snp_model.specs.declared.reading.Quantity.TheVariants as quantities
 use Rattle.snp_model.specs.Reading.{Made, nothing, reading, closed, Fault, refused, is_passed_over, turns_spell, order_of, by_rule, within, fit, fit_line, fit_words, add_regions, add_guest, add_page, add_word, add_actor, add_line, add_item_of, add_item, add_order, add_words, turns_count, Makes, Valid}
 use Rattle.snp_model.specs.ScenarioLines.{frames_of, regions_row, turn_from, turn_parts, turn_of, turns_after, is_order_row, order_row, version_row, first_scenario, has_no, before_pages, before_words, before_actors, before_orders, idle, opening, opened_of, next_number, page_size, guest_row, page_row, word_row, cpu_row, tables_row, host_row, with_line, has_asid, is_opened, is_declared, apart, collide, key_of, validity}
-use Rattle.snp_model.specs.Sound.{Pairwise, IsGuest, AsidsDiffer, IsPage, FramesDiffer, GpnsDiffer, IsWord, IsActor, IsCpu, IsRole, IsSkip, IsItemOf, IsLineOf, IsTurn, IsSound}
+use Rattle.snp_model.specs.Bounds.{IsCpu, IsRole, IsSkip, IsItemOf, IsLineOf}
+use Rattle.snp_model.specs.Sound.{Pairwise, IsGuest, AsidsDiffer, IsPage, FramesDiffer, GpnsDiffer, IsWord, IsActor, IsTurn, IsSound}
 
 -- steps that gave a value
 pub bind_ok : {A B E : Type 0} (r : Result A E) (f : A → Result B E) (y : B) → (r >>= f) ≡ Ok y → (x : A) × (r ≡ Ok x) × (f x ≡ Ok y)

@@ -11,27 +11,27 @@ use Rattle.snp_model.specs.declared.event.Deed.TheVariants as deeds
 use Rattle.snp_model.specs.declared.event.Outcome.{Outcome}
 use Rattle.snp_model.specs.declared.event.Outcome.TheVariants as outcomes
 use Rattle.snp_model.specs.declared.item.Item.{Item}
-use Rattle.snp_model.specs.declared.item.Item.TheVariants.{Access, Skip}
+use Rattle.snp_model.specs.declared.item.Item.TheVariants as items
 use Rattle.snp_model.specs.declared.item.Op.{Op}
 use Rattle.snp_model.specs.declared.item.Op.TheVariants.{Load, Store, Swap, Compare, Xor}
 use Rattle.snp_model.specs.declared.scenario.GuestSpec.{GuestSpec}
 use Rattle.snp_model.specs.declared.scenario.Paging.{Paging}
 use Rattle.snp_model.specs.declared.scenario.Role.{Role}
 use Rattle.snp_model.specs.declared.scenario.Role.TheVariants.{Cpu, Host, Firmware}
+use Rattle.snp_model.specs.declared.walk.Lookup.{Lookup}
 use Rattle.snp_model.specs.declared.walk.Need.{Need}
 use Rattle.snp_model.specs.declared.walk.Need.TheVariants as needs
 use Rattle.snp_model.specs.declared.entry.PageSize.{PageSize}
-use Rattle.snp_model.specs.Accesses.{guest_verdict}
-use Rattle.snp_model.specs.GuestWalk.{is_canonical}
-use Rattle.snp_model.specs.Walking.{Processor, index_of}
+use Rattle.snp_model.specs.GuestWalk.{levels_of, is_canonical}
+use Rattle.snp_model.specs.Walking.{Processor, lookup_of, index_of}
 use Rattle.snp_model.specs.Opening.{asid_of}
 use Rattle.snp_model.specs.Operations.{outcome_of}
 use Rattle.snp_model.specs.Skips.{skip_outcome}
 use Rattle.snp_model.specs.Verdicts.{private_verdict, private_refusal, shared_verdict, host_verdict, is_large, lacks}
 use Rattle.snp_model.specs.State.{Pages, Context, Contents, ActorPart, View, word_of}
-use Rattle.snp_model.specs.Step.{Move, item_move, is_running, quiet_move, unbuilt_move, access_move, pages_after, begin_move, table_move, need_move, cpu_access, host_access, data_place, table_place}
-use Rattle.snp_model.specs.GuestMemory.{Memory, Use, Untouched, use_of_word, use_of, use_for, IsLegalUse, used}
-use Rattle.snp_model.specs.Holders.{Archive, InFrame, IsHeldAs, Core}
+use Rattle.snp_model.specs.Step.{Move, Arrival, item_move, is_running, quiet_move, unbuilt_move, misplaced_move, faulted_move, access_move, pages_after, begin_move, table_move, need_move, walked_move, data_move, host_access, data_place, table_place}
+use Rattle.snp_model.specs.GuestMemory.{Memory, Use, Untouched, use_of_word, use_of, firmware_use, use_for, IsLegalUse, used}
+use Rattle.snp_model.specs.Holders.{InFrame, IsHeldAs, Core}
 use Rattle.snp_model.proofs.CoreLaws.{with_word_length, core_writes_elsewhere, core_may_read, core_reads, core_writes}
 
 -- every frame has its 512 words
@@ -49,50 +49,64 @@ RoleOwns guest asid guests Host = Unit {0}
 RoleOwns guest asid guests Firmware = Unit {0}
 
 -- before an event
-pub record Before (asid : ℕ) (archive : Archive) (memory : Memory) (old : Contents) : Type 0 where
-  pub core : Core old.pages archive asid memory
+pub record Before (asid : ℕ) (memory : Memory) (old : Contents) : Type 0 where
+  pub core : Core old.pages asid memory
   pub whole : AreWhole old.pages
 
 -- an event with this use leads from a state to another as it should
-pub record Fine (asid : ℕ) (archive : Archive) (memory : Memory) (old new : Contents) (does : Use) : Type 0 where
+pub record Fine (asid : ℕ) (memory : Memory) (old new : Contents) (does : Use) : Type 0 where
   pub legal : IsLegalUse memory does
-  pub core : Core new.pages archive asid (used does memory)
+  pub core : Core new.pages asid (used does memory)
   pub whole : AreWhole new.pages
 
 -- so a move of an item of an actor
-pub record MoveFine (guest asid : ℕ) (archive : Archive) (memory : Memory) (old : Contents) (role : Role) (item : Item) (move : Move) : Type 0 where
-  pub fine : Fine asid archive memory old move.contents (use_for guest role move.deed item move.outcome)
+pub record MoveFine (guest asid : ℕ) (memory : Memory) (old : Contents) (role : Role) (item : Item) (move : Move) : Type 0 where
+  pub fine : Fine asid memory old move.contents (use_for guest move.contents role move.deed item move.outcome)
 
--- only an access and a table do anything
-untouched_for : (guest : ℕ) (role : Role) (deed : Deed) (item : Item) (outcome : Option Outcome) → use_of deed item outcome ≡ Untouched → use_for guest role deed item outcome ≡ Untouched
+-- an event that does nothing, whether it is a guest's processor's or the firmware's
+record IsIdle (deed : Deed) (item : Item) (outcome : Option Outcome) : Type 0 where
+  processors : use_of deed item outcome ≡ Untouched
+  firmware : (guest : ℕ) (left : Contents) → firmware_use guest left deed item outcome ≡ Untouched
+
+untouched_for : (guest : ℕ) (left : Contents) (role : Role) (deed : Deed) (item : Item) (outcome : Option Outcome) → IsIdle deed item outcome → use_for guest left role deed item outcome ≡ Untouched
 unfolding use_for
-untouched_for guest (Cpu owner vmpl npt paging) deed item outcome e = cond_both (eqb owner guest) _ _ (λ (does : Use). does ≡ Untouched) (λ _. e) (λ _. refl)
-untouched_for guest Host deed item outcome e = refl
-untouched_for guest Firmware deed item outcome e = refl
+untouched_for guest left (Cpu owner vmpl npt paging) deed item outcome e = cond_both (eqb owner guest) _ _ (λ (does : Use). does ≡ Untouched) (λ _. e.processors) (λ _. refl)
+untouched_for guest left Host deed item outcome e = refl
+untouched_for guest left Firmware deed item outcome e = e.firmware guest left
 
 -- an event that changes nothing
-nothing_fine : (asid : ℕ) (archive : Archive) (memory : Memory) (old : Contents) → Before asid archive memory old → Fine asid archive memory old old Untouched
+nothing_fine : (asid : ℕ) (memory : Memory) (old : Contents) → Before asid memory old → Fine asid memory old old Untouched
 unfolding used
-nothing_fine asid archive memory old before = record { legal = tt; core = before.core; whole = before.whole }
+nothing_fine asid memory old before = record { legal = tt; core = before.core; whole = before.whole }
 
-quiet_fine : (guest asid : ℕ) (archive : Archive) (memory : Memory) (old : Contents) (part : ActorPart) (role : Role) (item : Item) (deed : Deed) (outcome : Option Outcome)
-    → Before asid archive memory old → use_of deed item outcome ≡ Untouched → MoveFine guest asid archive memory old role item (quiet_move old part deed outcome)
-quiet_fine guest asid archive memory old part role item deed outcome before e = record {
-  fine = subst (λ (does : Use). Fine asid archive memory old old does) (sym (untouched_for guest role deed item outcome e)) (nothing_fine asid archive memory old before);
+quiet_fine : (guest asid : ℕ) (memory : Memory) (old : Contents) (part : ActorPart) (role : Role) (item : Item) (deed : Deed) (outcome : Option Outcome)
+    → Before asid memory old → IsIdle deed item outcome → MoveFine guest asid memory old role item (quiet_move old part deed outcome)
+quiet_fine guest asid memory old part role item deed outcome before e = record {
+  fine = subst (λ (does : Use). Fine asid memory old old does) (sym (untouched_for guest old role deed item outcome e)) (nothing_fine asid memory old before);
 }
 
-unbuilt_fine : (guest asid : ℕ) (archive : Archive) (memory : Memory) (old : Contents) (part : ActorPart) (role : Role) (item : Item)
-    → Before asid archive memory old → MoveFine guest asid archive memory old role item (unbuilt_move old part)
-unfolding use_of
-unbuilt_fine guest asid archive memory old part role item before = quiet_fine guest asid archive memory old part role item deeds.Control (Some outcomes.Next) before refl
+unbuilt_fine : (guest asid : ℕ) (memory : Memory) (old : Contents) (part : ActorPart) (role : Role) (item : Item)
+    → Before asid memory old → MoveFine guest asid memory old role item (unbuilt_move old part)
+unfolding use_of firmware_use
+unbuilt_fine guest asid memory old part role item before = quiet_fine guest asid memory old part role item deeds.Control (Some outcomes.Next) before (record { processors = refl; firmware = λ _ _. refl })
 
-begin_fine : (guest asid : ℕ) (archive : Archive) (memory : Memory) (old : Contents) (part : ActorPart) (role : Role) (item : Item) (context : Context) (address : ℕ)
-    → Before asid archive memory old → MoveFine guest asid archive memory old role item (begin_move old part context address)
-unfolding begin_move use_of
-begin_fine guest asid archive memory old part role item context address before =
-    let quiet = λ (outcome : Option Outcome). quiet_fine guest asid archive memory old part role item deeds.Begin outcome before refl in
-    cond_both (not (is_running context.state)) _ _ (MoveFine guest asid archive memory old role item) (λ _. quiet (Some outcomes.Offline))
-    (λ _. cond_both (not (is_canonical address)) _ _ (MoveFine guest asid archive memory old role item) (λ _. quiet (Some outcomes.Gp)) (λ _. quiet None))
+misplaced_fine : (guest asid : ℕ) (memory : Memory) (old : Contents) (part : ActorPart) (role : Role) (item : Item)
+    → Before asid memory old → MoveFine guest asid memory old role item (misplaced_move old part)
+unfolding use_of firmware_use
+misplaced_fine guest asid memory old part role item before = quiet_fine guest asid memory old part role item deeds.Control (Some outcomes.Next) before (record { processors = refl; firmware = λ _ _. refl })
+
+faulted_fine : (guest asid : ℕ) (memory : Memory) (old : Contents) (part : ActorPart) (role : Role) (item : Item)
+    → Before asid memory old → MoveFine guest asid memory old role item (faulted_move old part)
+unfolding use_of firmware_use
+faulted_fine guest asid memory old part role item before = quiet_fine guest asid memory old part role item deeds.Control (Some outcomes.Next) before (record { processors = refl; firmware = λ _ _. refl })
+
+begin_fine : (guest asid : ℕ) (memory : Memory) (old : Contents) (part : ActorPart) (role : Role) (item : Item) (context : Context) (levels address : ℕ) (refusal : Option Outcome)
+    → Before asid memory old → MoveFine guest asid memory old role item (begin_move old part context levels address refusal)
+unfolding begin_move use_of firmware_use
+begin_fine guest asid memory old part role item context levels address refusal before =
+    let quiet = λ (outcome : Option Outcome). quiet_fine guest asid memory old part role item deeds.Begin outcome before (record { processors = refl; firmware = λ _ _. refl }) in
+    cond_both (not (is_running context.state)) _ _ (MoveFine guest asid memory old role item) (λ _. quiet (Some outcomes.Offline))
+    (λ _. cond_both (not (is_canonical levels address)) _ _ (MoveFine guest asid memory old role item) (λ _. quiet (Some outcomes.Gp)) (λ _. quiet refusal))
 
 -- a word written, or none
 pages_whole : (op : Op) (frame index word : ℕ) (pages : Pages) → AreWhole pages → AreWhole (pages_after op frame index word pages)
@@ -103,60 +117,60 @@ pages_whole (Compare expected next) frame index word pages whole = λ f. with_wo
 pages_whole (Xor value) frame index word pages whole = λ f. with_word_length frame index _ pages f ∙ whole f
 
 -- an access to a frame that holds nothing of the guest
-core_elsewhere : (op : Op) (frame index word : ℕ) (pages : Pages) (archive : Archive) (asid : ℕ) (memory : Memory) → ((gpn : ℕ) → IsHeldAs (pages frame).facts asid gpn → ⊥)
-    → Core pages archive asid memory → Core (pages_after op frame index word pages) archive asid memory
-core_elsewhere Load frame index word pages archive asid memory none core = core
-core_elsewhere (Store value) frame index word pages archive asid memory none core = core_writes_elsewhere frame index value pages archive asid memory none core
-core_elsewhere (Swap value) frame index word pages archive asid memory none core = core_writes_elsewhere frame index value pages archive asid memory none core
-core_elsewhere (Compare expected next) frame index word pages archive asid memory none core = core_writes_elsewhere frame index _ pages archive asid memory none core
-core_elsewhere (Xor value) frame index word pages archive asid memory none core = core_writes_elsewhere frame index _ pages archive asid memory none core
+core_elsewhere : (op : Op) (frame index word : ℕ) (pages : Pages) (asid : ℕ) (memory : Memory) → ((gpn : ℕ) → IsHeldAs (pages frame).facts asid gpn → ⊥)
+    → Core pages asid memory → Core (pages_after op frame index word pages) asid memory
+core_elsewhere Load frame index word pages asid memory none core = core
+core_elsewhere (Store value) frame index word pages asid memory none core = core_writes_elsewhere frame index value pages asid memory none core
+core_elsewhere (Swap value) frame index word pages asid memory none core = core_writes_elsewhere frame index value pages asid memory none core
+core_elsewhere (Compare expected next) frame index word pages asid memory none core = core_writes_elsewhere frame index _ pages asid memory none core
+core_elsewhere (Xor value) frame index word pages asid memory none core = core_writes_elsewhere frame index _ pages asid memory none core
 
-elsewhere_fine : (asid : ℕ) (archive : Archive) (memory : Memory) (old : Contents) (op : Op) (frame index word : ℕ) → Before asid archive memory old
-    → ((gpn : ℕ) → IsHeldAs (old.pages frame).facts asid gpn → ⊥) → Fine asid archive memory old (record old { pages = pages_after op frame index word old.pages }) Untouched
+elsewhere_fine : (asid : ℕ) (memory : Memory) (old : Contents) (op : Op) (frame index word : ℕ) → Before asid memory old
+    → ((gpn : ℕ) → IsHeldAs (old.pages frame).facts asid gpn → ⊥) → Fine asid memory old (record old { pages = pages_after op frame index word old.pages }) Untouched
 unfolding used
-elsewhere_fine asid archive memory old op frame index word before none = record {
+elsewhere_fine asid memory old op frame index word before none = record {
   legal = tt;
-  core = core_elsewhere op frame index word old.pages archive asid memory none before.core;
+  core = core_elsewhere op frame index word old.pages asid memory none before.core;
   whole = pages_whole op frame index word old.pages before.whole;
 }
 
 -- an access to the frame that holds the guest's page
-own_fine : (asid : ℕ) (archive : Archive) (memory : Memory) (old : Contents) (op : Op) (gpn frame index : ℕ) → Before asid archive memory old
+own_fine : (asid : ℕ) (memory : Memory) (old : Contents) (op : Op) (gpn frame index : ℕ) → Before asid memory old
     → IsHeldAs (old.pages frame).facts asid gpn → index < 512
     → let word = word_of (old.pages frame) index in
-    Fine asid archive memory old (record old { pages = pages_after op frame index word old.pages }) (use_of_word (outcome_of op word) op gpn index)
+    Fine asid memory old (record old { pages = pages_after op frame index word old.pages }) (use_of_word (outcome_of op word) op gpn index)
 unfolding use_of_word used
-own_fine asid archive memory old Load gpn frame index before h below = record {
-  legal = core_may_read old.pages archive asid memory gpn frame index before.core h;
-  core = core_reads old.pages archive asid memory gpn frame index (word_of (old.pages frame) index) before.core h refl;
+own_fine asid memory old Load gpn frame index before h below = record {
+  legal = core_may_read old.pages asid memory gpn frame index before.core h;
+  core = core_reads old.pages asid memory gpn frame index (word_of (old.pages frame) index) before.core h refl;
   whole = before.whole;
 }
-own_fine asid archive memory old (Store value) gpn frame index before h below =
+own_fine asid memory old (Store value) gpn frame index before h below =
     let within = subst (λ (n : ℕ). index < n) (sym (before.whole frame)) below in
     record {
       legal = before.core.held gpn (InFrame frame) h;
-      core = core_writes old.pages archive asid memory gpn frame index value before.core h within;
+      core = core_writes old.pages asid memory gpn frame index value before.core h within;
       whole = pages_whole (Store value) frame index (word_of (old.pages frame) index) old.pages before.whole;
     }
-own_fine asid archive memory old (Swap value) gpn frame index before h below =
+own_fine asid memory old (Swap value) gpn frame index before h below =
     let within = subst (λ (n : ℕ). index < n) (sym (before.whole frame)) below in
     record {
-      legal = core_may_read old.pages archive asid memory gpn frame index before.core h;
-      core = core_writes old.pages archive asid memory gpn frame index value before.core h within;
+      legal = core_may_read old.pages asid memory gpn frame index before.core h;
+      core = core_writes old.pages asid memory gpn frame index value before.core h within;
       whole = pages_whole (Swap value) frame index (word_of (old.pages frame) index) old.pages before.whole;
     }
-own_fine asid archive memory old (Compare expected next) gpn frame index before h below =
+own_fine asid memory old (Compare expected next) gpn frame index before h below =
     let within = subst (λ (n : ℕ). index < n) (sym (before.whole frame)) below in
     record {
-      legal = (core_may_read old.pages archive asid memory gpn frame index before.core h, refl);
-      core = core_writes old.pages archive asid memory gpn frame index _ before.core h within;
+      legal = (core_may_read old.pages asid memory gpn frame index before.core h, refl);
+      core = core_writes old.pages asid memory gpn frame index _ before.core h within;
       whole = pages_whole (Compare expected next) frame index (word_of (old.pages frame) index) old.pages before.whole;
     }
-own_fine asid archive memory old (Xor value) gpn frame index before h below =
+own_fine asid memory old (Xor value) gpn frame index before h below =
     let within = subst (λ (n : ℕ). index < n) (sym (before.whole frame)) below in
     record {
-      legal = core_may_read old.pages archive asid memory gpn frame index before.core h;
-      core = core_writes old.pages archive asid memory gpn frame index _ before.core h within;
+      legal = core_may_read old.pages asid memory gpn frame index before.core h;
+      core = core_writes old.pages asid memory gpn frame index _ before.core h within;
       whole = pages_whole (Xor value) frame index (word_of (old.pages frame) index) old.pages before.whole;
     }
 
@@ -217,39 +231,39 @@ hidden_quiet op gpn index = refl
 held_asid : (facts : RmpEntry) (a b gpn : ℕ) → a ≡ b → IsHeldAs facts a gpn → IsHeldAs facts b gpn
 held_asid facts a b gpn same h = subst (λ (x : ℕ). IsHeldAs facts x gpn) same h
 
-private_fine : (guest asid : ℕ) (guests : List GuestSpec) (archive : Archive) (memory : Memory) (old : Contents) (part : ActorPart) (owner vmpl npt : ℕ) (paging : Paging) (address : ℕ) (op : Op)
+private_fine : (guest asid : ℕ) (guests : List GuestSpec) (memory : Memory) (old : Contents) (part : ActorPart) (owner vmpl npt : ℕ) (paging : Paging) (address : ℕ) (op : Op)
     (gpn frame index : ℕ) (place : Place) (verdict : Verdict)
-    → Before asid archive memory old → Owns guest asid guests owner → index < 512 → place.asid ≡ asid_of guests owner → place.gpn ≡ gpn
+    → Before asid memory old → Owns guest asid guests owner → index < 512 → place.asid ≡ asid_of guests owner → place.gpn ≡ gpn
     → private_verdict (old.pages frame).facts place op ≡ verdict
-    → MoveFine guest asid archive memory old (Cpu owner vmpl npt paging) (Access address op) (access_move old part (deeds.Access gpn index frame true) verdict op frame index)
-unfolding access_move use_for use_of
-private_fine guest asid guests archive memory old part owner vmpl npt paging address op gpn frame index place Pass before owns below asid_is gpn_is is =
+    → MoveFine guest asid memory old (Cpu owner vmpl npt paging) (items.Access address op) (access_move old part (deeds.Access gpn index frame true) verdict op frame index)
+unfolding access_move use_for use_of firmware_use
+private_fine guest asid guests memory old part owner vmpl npt paging address op gpn frame index place Pass before owns below asid_is gpn_is is =
     let facts = (old.pages frame).facts in
     let word = word_of (old.pages frame) index in
     let passed = pass_holds facts place op is in
     let h : IsHeldAs facts (asid_of guests owner) gpn = subst (λ (p : ℕ). IsHeldAs facts (asid_of guests owner) p) gpn_is (held_asid facts place.asid (asid_of guests owner) place.gpn asid_is passed) in
     record {
-      fine = cond_both (eqb owner guest) _ _ (Fine asid archive memory old (record old { pages = pages_after op frame index word old.pages }))
-          (λ same. own_fine asid archive memory old op gpn frame index before (held_asid facts (asid_of guests owner) asid gpn (owns.own (eqb-true owner guest same)) h) below)
-          (λ different. elsewhere_fine asid archive memory old op frame index word before (λ q hq. owns.other (eqb-false owner guest different) (sym h.asid_is ∙ hq.asid_is)));
+      fine = cond_both (eqb owner guest) _ _ (Fine asid memory old (record old { pages = pages_after op frame index word old.pages }))
+          (λ same. own_fine asid memory old op gpn frame index before (held_asid facts (asid_of guests owner) asid gpn (owns.own (eqb-true owner guest same)) h) below)
+          (λ different. elsewhere_fine asid memory old op frame index word before (λ q hq. owns.other (eqb-false owner guest different) (sym h.asid_is ∙ hq.asid_is)));
     }
-private_fine guest asid guests archive memory old part owner vmpl npt paging address op gpn frame index place Hidden before owns below asid_is gpn_is is =
-    quiet_fine guest asid archive memory old part (Cpu owner vmpl npt paging) (Access address op) (deeds.Access gpn index frame true) (Some outcomes.Opaque) before (hidden_quiet op gpn index)
-private_fine guest asid guests archive memory old part owner vmpl npt paging address op gpn frame index place (Fault outcome) before owns below asid_is gpn_is is =
-    quiet_fine guest asid archive memory old part (Cpu owner vmpl npt paging) (Access address op) (deeds.Access gpn index frame true) (Some outcome) before
-    (private_faults (old.pages frame).facts place op outcome gpn index is)
+private_fine guest asid guests memory old part owner vmpl npt paging address op gpn frame index place Hidden before owns below asid_is gpn_is is =
+    quiet_fine guest asid memory old part (Cpu owner vmpl npt paging) (items.Access address op) (deeds.Access gpn index frame true) (Some outcomes.Opaque) before (record { processors = hidden_quiet op gpn index; firmware = λ _ _. refl })
+private_fine guest asid guests memory old part owner vmpl npt paging address op gpn frame index place (Fault outcome) before owns below asid_is gpn_is is =
+    quiet_fine guest asid memory old part (Cpu owner vmpl npt paging) (items.Access address op) (deeds.Access gpn index frame true) (Some outcome) before
+    (record { processors = private_faults (old.pages frame).facts place op outcome gpn index is; firmware = λ _ _. refl })
 
 -- a host access, by what the RMP says
-host_fine : (guest asid : ℕ) (archive : Archive) (memory : Memory) (old : Contents) (part : ActorPart) (item : Item) (op : Op) (frame index : ℕ) (verdict : Verdict)
-    → Before asid archive memory old → host_verdict (old.pages frame).facts op ≡ verdict
-    → MoveFine guest asid archive memory old Host item (access_move old part (deeds.Host frame index) verdict op frame index)
+host_fine : (guest asid : ℕ) (memory : Memory) (old : Contents) (part : ActorPart) (item : Item) (op : Op) (frame index : ℕ) (verdict : Verdict)
+    → Before asid memory old → host_verdict (old.pages frame).facts op ≡ verdict
+    → MoveFine guest asid memory old Host item (access_move old part (deeds.Host frame index) verdict op frame index)
 unfolding access_move use_for
-host_fine guest asid archive memory old part item op frame index Pass before is = record {
-  fine = elsewhere_fine asid archive memory old op frame index (word_of (old.pages frame) index) before
+host_fine guest asid memory old part item op frame index Pass before is = record {
+  fine = elsewhere_fine asid memory old op frame index (word_of (old.pages frame) index) before
       (λ gpn h. true≢false (sym h.assigned ∙ host_holds_none (old.pages frame).facts op is));
 }
-host_fine guest asid archive memory old part item op frame index Hidden before is = record { fine = nothing_fine asid archive memory old before }
-host_fine guest asid archive memory old part item op frame index (Fault outcome) before is = record { fine = nothing_fine asid archive memory old before }
+host_fine guest asid memory old part item op frame index Hidden before is = record { fine = nothing_fine asid memory old before }
+host_fine guest asid memory old part item op frame index (Fault outcome) before is = record { fine = nothing_fine asid memory old before }
 
 -- a shared access passes where it writes no guest's page
 shared_holds_none : (facts : RmpEntry) (place : Place) (op : Op) → shared_verdict facts place op ≡ Pass → facts.assigned ≡ false
@@ -261,90 +275,112 @@ shared_holds_none facts place (Compare expected next) e = grind (arith, nat_test
 shared_holds_none facts place (Xor value) e = grind (arith, nat_tests)
 
 -- a shared access, by what the RMP says
-shared_fine : (guest asid : ℕ) (archive : Archive) (memory : Memory) (old : Contents) (part : ActorPart) (role : Role) (item : Item) (op : Op) (gpn frame index : ℕ) (place : Place) (verdict : Verdict)
-    → Before asid archive memory old → shared_verdict (old.pages frame).facts place op ≡ verdict
-    → MoveFine guest asid archive memory old role item (access_move old part (deeds.Access gpn index frame false) verdict op frame index)
-unfolding access_move use_of
-shared_fine guest asid archive memory old part role item op gpn frame index place Pass before is =
+shared_fine : (guest asid : ℕ) (memory : Memory) (old : Contents) (part : ActorPart) (role : Role) (item : Item) (op : Op) (gpn frame index : ℕ) (place : Place) (verdict : Verdict)
+    → Before asid memory old → shared_verdict (old.pages frame).facts place op ≡ verdict
+    → MoveFine guest asid memory old role item (access_move old part (deeds.Access gpn index frame false) verdict op frame index)
+unfolding access_move use_of firmware_use
+shared_fine guest asid memory old part role item op gpn frame index place Pass before is =
     let word = word_of (old.pages frame) index in
     let deed = deeds.Access gpn index frame false in
     record {
-      fine = subst (Fine asid archive memory old (record old { pages = pages_after op frame index word old.pages })) (sym (untouched_for guest role deed item (Some (outcome_of op word)) refl))
-          (elsewhere_fine asid archive memory old op frame index word before (λ q h. true≢false (sym h.assigned ∙ shared_holds_none (old.pages frame).facts place op is)));
+      fine = subst (Fine asid memory old (record old { pages = pages_after op frame index word old.pages })) (sym (untouched_for guest _ role deed item (Some (outcome_of op word)) (record { processors = refl; firmware = λ _ _. refl })))
+          (elsewhere_fine asid memory old op frame index word before (λ q h. true≢false (sym h.assigned ∙ shared_holds_none (old.pages frame).facts place op is)));
     }
-shared_fine guest asid archive memory old part role item op gpn frame index place Hidden before is =
-    quiet_fine guest asid archive memory old part role item (deeds.Access gpn index frame false) (Some outcomes.Opaque) before refl
-shared_fine guest asid archive memory old part role item op gpn frame index place (Fault outcome) before is =
-    quiet_fine guest asid archive memory old part role item (deeds.Access gpn index frame false) (Some outcome) before refl
+shared_fine guest asid memory old part role item op gpn frame index place Hidden before is =
+    quiet_fine guest asid memory old part role item (deeds.Access gpn index frame false) (Some outcomes.Opaque) before (record { processors = refl; firmware = λ _ _. refl })
+shared_fine guest asid memory old part role item op gpn frame index place (Fault outcome) before is =
+    quiet_fine guest asid memory old part role item (deeds.Access gpn index frame false) (Some outcome) before (record { processors = refl; firmware = λ _ _. refl })
 
--- a data access, private or shared
-data_fine : (guest asid : ℕ) (guests : List GuestSpec) (archive : Archive) (memory : Memory) (old : Contents) (part : ActorPart) (owner vmpl npt : ℕ) (paging : Paging) (address : ℕ) (op : Op)
-    (gpn : ℕ) (private : Bool) (frame : ℕ) (size : PageSize)
-    → Before asid archive memory old → Owns guest asid guests owner
-    → MoveFine guest asid archive memory old (Cpu owner vmpl npt paging) (Access address op)
-    (access_move old part (deeds.Access gpn (index_of address) frame private) (guest_verdict (old.pages frame).facts (data_place (asid_of guests owner) vmpl address gpn private frame size) op) op frame (index_of address))
-data_fine guest asid guests archive memory old part owner vmpl npt paging address op gpn true frame size before owns =
-    private_fine guest asid guests archive memory old part owner vmpl npt paging address op gpn frame (index_of address) (data_place (asid_of guests owner) vmpl address gpn true frame size) _
+-- what an item of a guest's processor does at the page that its walks have led to is fine
+abbrev ArrivesFine : ℕ → ℕ → Memory → Contents → Processor → Item → Arrival → Type 0
+ArrivesFine guest asid memory old cpu item arrives =
+    (gpn : ℕ) (private : Bool) (frame : ℕ) (size : PageSize) → MoveFine guest asid memory old (Cpu cpu.guest cpu.vmpl cpu.npt cpu.paging) item (arrives gpn private frame size)
+
+-- so a data access, private or shared
+data_fine : (guest asid : ℕ) (guests : List GuestSpec) (memory : Memory) (old : Contents) (part : ActorPart) (cpu : Processor) (address : ℕ) (op : Op)
+    → Before asid memory old → Owns guest asid guests cpu.guest → ArrivesFine guest asid memory old cpu (items.Access address op) (data_move guests old part cpu address op)
+data_fine guest asid guests memory old part cpu address op before owns gpn true frame size =
+    private_fine guest asid guests memory old part cpu.guest cpu.vmpl cpu.npt cpu.paging address op gpn frame (index_of address) (data_place (asid_of guests cpu.guest) cpu.vmpl address gpn true frame size) _
     before owns (omega arith) refl refl refl
-data_fine guest asid guests archive memory old part owner vmpl npt paging address op gpn false frame size before owns =
-    shared_fine guest asid archive memory old part (Cpu owner vmpl npt paging) (Access address op) op gpn frame (index_of address) (data_place (asid_of guests owner) vmpl address gpn false frame size) _ before refl
+data_fine guest asid guests memory old part cpu address op before owns gpn false frame size =
+    shared_fine guest asid memory old part (Cpu cpu.guest cpu.vmpl cpu.npt cpu.paging) (items.Access address op) op gpn frame (index_of address)
+    (data_place (asid_of guests cpu.guest) cpu.vmpl address gpn false frame size) _ before refl
 
 -- a word of a guest table, by what the RMP says: where it is read, it is a word of the guest's own page
-table_fine : (guest asid : ℕ) (guests : List GuestSpec) (archive : Archive) (memory : Memory) (frames : ℕ) (old : Contents) (part : ActorPart) (cpu : Processor) (address : ℕ) (op : Op) (verdict : Verdict)
+table_fine : (guest asid : ℕ) (guests : List GuestSpec) (memory : Memory) (frames : ℕ) (old : Contents) (part : ActorPart) (cpu : Processor) (item : Item) (lookup : Lookup) (verdict : Verdict)
     (gpn index frame : ℕ) (place : Place)
-    → Before asid archive memory old → Owns guest asid guests cpu.guest → place.asid ≡ asid_of guests cpu.guest → place.gpn ≡ gpn
+    → Before asid memory old → Owns guest asid guests cpu.guest → place.asid ≡ asid_of guests cpu.guest → place.gpn ≡ gpn
     → private_verdict (old.pages frame).facts place Load ≡ verdict
-    → MoveFine guest asid archive memory old (Cpu cpu.guest cpu.vmpl cpu.npt cpu.paging) (Access address op) (table_move frames old part cpu address op verdict gpn index frame)
-unfolding table_move use_for use_of used
-table_fine guest asid guests archive memory frames old part cpu address op Pass gpn index frame place before owns asid_is gpn_is is =
+    → MoveFine guest asid memory old (Cpu cpu.guest cpu.vmpl cpu.npt cpu.paging) item (table_move frames old part cpu lookup verdict gpn index frame)
+unfolding table_move use_for use_of used firmware_use
+table_fine guest asid guests memory frames old part cpu item lookup Pass gpn index frame place before owns asid_is gpn_is is =
     let facts = (old.pages frame).facts in
     let word = word_of (old.pages frame) index in
     let passed = pass_holds facts place Load is in
     let h : IsHeldAs facts (asid_of guests cpu.guest) gpn = subst (λ (p : ℕ). IsHeldAs facts (asid_of guests cpu.guest) p) gpn_is (held_asid facts place.asid (asid_of guests cpu.guest) place.gpn asid_is passed) in
     record {
-      fine = cond_both (eqb cpu.guest guest) _ _ (Fine asid archive memory old old)
+      fine = cond_both (eqb cpu.guest guest) _ _ (Fine asid memory old old)
           (λ same.
           let own = held_asid facts (asid_of guests cpu.guest) asid gpn (owns.own (eqb-true cpu.guest guest same)) h in
-          record { legal = core_may_read old.pages archive asid memory gpn frame index before.core own; core = core_reads old.pages archive asid memory gpn frame index word before.core own refl; whole = before.whole })
-          (λ different. nothing_fine asid archive memory old before);
+          record { legal = core_may_read old.pages asid memory gpn frame index before.core own; core = core_reads old.pages asid memory gpn frame index word before.core own refl; whole = before.whole })
+          (λ different. nothing_fine asid memory old before);
     }
-table_fine guest asid guests archive memory frames old part cpu address op Hidden gpn index frame place before owns asid_is gpn_is is =
-    quiet_fine guest asid archive memory old part (Cpu cpu.guest cpu.vmpl cpu.npt cpu.paging) (Access address op) (deeds.Table gpn index frame None) (Some outcomes.Opaque) before refl
-table_fine guest asid guests archive memory frames old part cpu address op (Fault outcome) gpn index frame place before owns asid_is gpn_is is =
-    quiet_fine guest asid archive memory old part (Cpu cpu.guest cpu.vmpl cpu.npt cpu.paging) (Access address op) (deeds.Table gpn index frame None) (Some outcome) before refl
+table_fine guest asid guests memory frames old part cpu item lookup Hidden gpn index frame place before owns asid_is gpn_is is =
+    quiet_fine guest asid memory old part (Cpu cpu.guest cpu.vmpl cpu.npt cpu.paging) item (deeds.Table gpn index frame None) (Some outcomes.Opaque) before (record { processors = refl; firmware = λ _ _. refl })
+table_fine guest asid guests memory frames old part cpu item lookup (Fault outcome) gpn index frame place before owns asid_is gpn_is is =
+    quiet_fine guest asid memory old part (Cpu cpu.guest cpu.vmpl cpu.npt cpu.paging) item (deeds.Table gpn index frame None) (Some outcome) before (record { processors = refl; firmware = λ _ _. refl })
 
--- a guest processor's access
-need_fine : (guest asid : ℕ) (guests : List GuestSpec) (archive : Archive) (memory : Memory) (frames : ℕ) (old : Contents) (part : ActorPart) (cpu : Processor) (address : ℕ) (op : Op) (need : Need)
-    → Before asid archive memory old → Owns guest asid guests cpu.guest
-    → MoveFine guest asid archive memory old (Cpu cpu.guest cpu.vmpl cpu.npt cpu.paging) (Access address op) (need_move frames guests old part cpu address op need)
-unfolding need_move use_of
-need_fine guest asid guests archive memory frames old part cpu address op (needs.Nested frame index) before owns =
-    quiet_fine guest asid archive memory old part (Cpu cpu.guest cpu.vmpl cpu.npt cpu.paging) (Access address op) _ _ before refl
-need_fine guest asid guests archive memory frames old part cpu address op (needs.Table gpn index frame size) before owns =
-    table_fine guest asid guests archive memory frames old part cpu address op _ gpn index frame (table_place (asid_of guests cpu.guest) cpu.vmpl gpn index frame size) before owns refl refl refl
-need_fine guest asid guests archive memory frames old part cpu address op (needs.Data gpn private frame size) before owns =
-    data_fine guest asid guests archive memory old part cpu.guest cpu.vmpl cpu.npt cpu.paging address op gpn private frame size before owns
-need_fine guest asid guests archive memory frames old part cpu address op (needs.Fault outcome) before owns =
-    unbuilt_fine guest asid archive memory old part (Cpu cpu.guest cpu.vmpl cpu.npt cpu.paging) (Access address op) before
+-- an item of a guest processor that walks
+need_fine : (guest asid : ℕ) (guests : List GuestSpec) (memory : Memory) (frames : ℕ) (old : Contents) (part : ActorPart) (cpu : Processor) (item : Item) (lookup : Lookup) (arrives : Arrival) (need : Need)
+    → Before asid memory old → Owns guest asid guests cpu.guest → ArrivesFine guest asid memory old cpu item arrives
+    → MoveFine guest asid memory old (Cpu cpu.guest cpu.vmpl cpu.npt cpu.paging) item (need_move frames guests old part cpu lookup arrives need)
+unfolding need_move use_of firmware_use
+need_fine guest asid guests memory frames old part cpu item lookup arrives (needs.Nested frame index) before owns arrived =
+    quiet_fine guest asid memory old part (Cpu cpu.guest cpu.vmpl cpu.npt cpu.paging) item _ _ before (record { processors = refl; firmware = λ _ _. refl })
+need_fine guest asid guests memory frames old part cpu item lookup arrives (needs.Table gpn index frame size) before owns arrived =
+    table_fine guest asid guests memory frames old part cpu item lookup _ gpn index frame (table_place (asid_of guests cpu.guest) cpu.vmpl gpn index frame size) before owns refl refl refl
+need_fine guest asid guests memory frames old part cpu item lookup arrives (needs.Data gpn private frame size) before owns arrived = arrived gpn private frame size
+need_fine guest asid guests memory frames old part cpu item lookup arrives (needs.Fault outcome) before owns arrived =
+    faulted_fine guest asid memory old part (Cpu cpu.guest cpu.vmpl cpu.npt cpu.paging) item before
 
-cpu_access_fine : (guest asid : ℕ) (guests : List GuestSpec) (archive : Archive) (memory : Memory) (frames : ℕ) (old : Contents) (part : ActorPart) (cpu : Processor) (address : ℕ) (op : Op) (made : List Deed)
-    → Before asid archive memory old → Owns guest asid guests cpu.guest
-    → MoveFine guest asid archive memory old (Cpu cpu.guest cpu.vmpl cpu.npt cpu.paging) (Access address op) (cpu_access frames guests old part cpu address op made)
-unfolding cpu_access
-cpu_access_fine guest asid guests archive memory frames old part cpu address op [] before owns =
-    begin_fine guest asid archive memory old part (Cpu cpu.guest cpu.vmpl cpu.npt cpu.paging) (Access address op) (old.contexts cpu.guest) address before
-cpu_access_fine guest asid guests archive memory frames old part cpu address op (deed ∷ others) before owns =
-    need_fine guest asid guests archive memory frames old part cpu address op _ before owns
+walked_fine : (guest asid : ℕ) (guests : List GuestSpec) (memory : Memory) (frames : ℕ) (old : Contents) (part : ActorPart) (cpu : Processor) (item : Item) (lookup : Lookup) (refusal : Option Outcome) (arrives : Arrival) (made : List Deed)
+    → Before asid memory old → Owns guest asid guests cpu.guest → ArrivesFine guest asid memory old cpu item arrives
+    → MoveFine guest asid memory old (Cpu cpu.guest cpu.vmpl cpu.npt cpu.paging) item (walked_move frames guests old part cpu lookup refusal arrives made)
+unfolding walked_move
+walked_fine guest asid guests memory frames old part cpu item lookup refusal arrives [] before owns arrived =
+    begin_fine guest asid memory old part (Cpu cpu.guest cpu.vmpl cpu.npt cpu.paging) item (old.contexts cpu.guest) (levels_of cpu.paging) lookup.address refusal before
+walked_fine guest asid guests memory frames old part cpu item lookup refusal arrives (deed ∷ others) before owns arrived =
+    need_fine guest asid guests memory frames old part cpu item lookup arrives _ before owns arrived
 
 -- so each item's move
-pub item_fine : (guest asid : ℕ) (guests : List GuestSpec) (archive : Archive) (memory : Memory) (frames : ℕ) (view : View) (part : ActorPart) (role : Role) (item : Item)
-    → Before asid archive memory view.contents → RoleOwns guest asid guests role
-    → MoveFine guest asid archive memory view.contents role item (item_move frames guests view part role item)
-unfolding item_move host_access use_of
-item_fine guest asid guests archive memory frames view part (Cpu owner vmpl npt paging) (Access address op) before owns =
-    cpu_access_fine guest asid guests archive memory frames view.contents part (record { guest = owner; vmpl = vmpl; npt = npt; paging = paging }) address op part.deeds before owns
-item_fine guest asid guests archive memory frames view part Host (Access address op) before owns =
-    host_fine guest asid archive memory view.contents part (Access address op) op (address / 4096) (index_of address) _ before refl
-item_fine guest asid guests archive memory frames view part role (Skip count test) before owns =
-    quiet_fine guest asid archive memory view.contents part role (Skip count test) deeds.Control (Some (skip_outcome count test part.last)) before refl
-item_fine guest asid guests archive memory frames view part role item before owns = unbuilt_fine guest asid archive memory view.contents part role item before
+pub item_fine : (guest asid : ℕ) (guests : List GuestSpec) (memory : Memory) (frames : ℕ) (view : View) (part : ActorPart) (role : Role) (item : Item)
+    → Before asid memory view.contents → RoleOwns guest asid guests role
+    → MoveFine guest asid memory view.contents role item (item_move frames guests view part role item)
+unfolding item_move host_access use_of firmware_use
+item_fine guest asid guests memory frames view part (Cpu owner vmpl npt paging) (items.Access address op) before owns =
+    let cpu : Processor = record { guest = owner; vmpl = vmpl; npt = npt; paging = paging } in
+    walked_fine guest asid guests memory frames view.contents part cpu (items.Access address op) (lookup_of address op) None _ part.deeds before owns (data_fine guest asid guests memory view.contents part cpu address op before owns)
+item_fine guest asid guests memory frames view part (Cpu owner vmpl npt paging) (items.Pvalidate address size validate) before owns = unbuilt_fine guest asid memory view.contents part (Cpu owner vmpl npt paging) (items.Pvalidate address size validate) before
+item_fine guest asid guests memory frames view part (Cpu owner vmpl npt paging) (items.Rmpadjust address size target mask vmsa) before owns = unbuilt_fine guest asid memory view.contents part (Cpu owner vmpl npt paging) (items.Rmpadjust address size target mask vmsa) before
+item_fine guest asid guests memory frames view part (Cpu owner vmpl npt paging) (items.Rmpupdate update) before owns = misplaced_fine guest asid memory view.contents part (Cpu owner vmpl npt paging) (items.Rmpupdate update) before
+item_fine guest asid guests memory frames view part (Cpu owner vmpl npt paging) (items.Psmash frame) before owns = misplaced_fine guest asid memory view.contents part (Cpu owner vmpl npt paging) (items.Psmash frame) before
+item_fine guest asid guests memory frames view part (Cpu owner vmpl npt paging) (items.Firmware command) before owns = misplaced_fine guest asid memory view.contents part (Cpu owner vmpl npt paging) (items.Firmware command) before
+item_fine guest asid guests memory frames view part (Cpu owner vmpl npt paging) (items.Skip count test) before owns =
+    quiet_fine guest asid memory view.contents part (Cpu owner vmpl npt paging) (items.Skip count test) deeds.Control (Some (skip_outcome count test part.last)) before (record { processors = refl; firmware = λ _ _. refl })
+item_fine guest asid guests memory frames view part Host (items.Access address op) before owns =
+    host_fine guest asid memory view.contents part (items.Access address op) op (address / 4096) (index_of address) _ before refl
+item_fine guest asid guests memory frames view part Host (items.Pvalidate address size validate) before owns = misplaced_fine guest asid memory view.contents part Host (items.Pvalidate address size validate) before
+item_fine guest asid guests memory frames view part Host (items.Rmpadjust address size target mask vmsa) before owns = misplaced_fine guest asid memory view.contents part Host (items.Rmpadjust address size target mask vmsa) before
+item_fine guest asid guests memory frames view part Host (items.Rmpupdate update) before owns = unbuilt_fine guest asid memory view.contents part Host (items.Rmpupdate update) before
+item_fine guest asid guests memory frames view part Host (items.Psmash frame) before owns = unbuilt_fine guest asid memory view.contents part Host (items.Psmash frame) before
+item_fine guest asid guests memory frames view part Host (items.Firmware command) before owns = misplaced_fine guest asid memory view.contents part Host (items.Firmware command) before
+item_fine guest asid guests memory frames view part Host (items.Skip count test) before owns =
+    quiet_fine guest asid memory view.contents part Host (items.Skip count test) deeds.Control (Some (skip_outcome count test part.last)) before (record { processors = refl; firmware = λ _ _. refl })
+item_fine guest asid guests memory frames view part Firmware (items.Access address op) before owns = misplaced_fine guest asid memory view.contents part Firmware (items.Access address op) before
+item_fine guest asid guests memory frames view part Firmware (items.Pvalidate address size validate) before owns = misplaced_fine guest asid memory view.contents part Firmware (items.Pvalidate address size validate) before
+item_fine guest asid guests memory frames view part Firmware (items.Rmpadjust address size target mask vmsa) before owns = misplaced_fine guest asid memory view.contents part Firmware (items.Rmpadjust address size target mask vmsa) before
+item_fine guest asid guests memory frames view part Firmware (items.Rmpupdate update) before owns = misplaced_fine guest asid memory view.contents part Firmware (items.Rmpupdate update) before
+item_fine guest asid guests memory frames view part Firmware (items.Psmash frame) before owns = misplaced_fine guest asid memory view.contents part Firmware (items.Psmash frame) before
+item_fine guest asid guests memory frames view part Firmware (items.Firmware command) before owns = unbuilt_fine guest asid memory view.contents part Firmware (items.Firmware command) before
+item_fine guest asid guests memory frames view part Firmware (items.Skip count test) before owns =
+    quiet_fine guest asid memory view.contents part Firmware (items.Skip count test) deeds.Control (Some (skip_outcome count test part.last)) before (record { processors = refl; firmware = λ _ _. refl })

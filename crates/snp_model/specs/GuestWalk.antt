@@ -1,15 +1,27 @@
 -- The walk of a guest's page tables (APM volume 2, 5.3), over any words at all: the words are fed, and no rule here ties them to a memory.
 use Rattle.std.specs.Prelude.{ℕ, ◌+◌, ◌-◌, ◌*◌, ◌/◌, ◌%◌, ◌^◌, ◌==◌, Bool, true, false, not, ◌&&◌, ◌||◌, if◌then◌else◌, List, ◌∷◌}
 use Rattle.snp_model.specs.declared.entry.PageSize.TheVariants.{Small, Large}
+use Rattle.snp_model.specs.declared.scenario.Paging.{Paging}
+use Rattle.snp_model.specs.declared.scenario.Paging.TheVariants.{Flat, Four, Five}
 use Rattle.snp_model.specs.declared.walk.GuestPath.{GuestPath}
 use Rattle.snp_model.specs.declared.walk.GuestEnd.{GuestEnd}
 use Rattle.snp_model.specs.declared.walk.GuestEnd.TheVariants.{Read, Leaf, Fault}
 use Rattle.snp_model.specs.Faults.{bit}
 use Rattle.snp_model.specs.NestedWalk.{has_bit, address_of, is_large_leaf}
 
--- whether an address is canonical: its bits 63:47 are all clear or all set
-abbrev pub is_canonical : ℕ → Bool
-is_canonical address = (address / 2 ^ 47 == 0) || (address / 2 ^ 47 == 0x1_FFFF)
+-- how many levels of guest tables there are; an address without guest tables is held to the rule of four
+abbrev pub levels_of : Paging → ℕ
+levels_of Flat = 4
+levels_of (Four root) = 4
+levels_of (Five root) = 5
+
+-- whether the bits of an address from this one on are all clear or all set
+abbrev pub is_extended : ℕ → ℕ → Bool
+is_extended bit address = (address / 2 ^ bit == 0) || (address / 2 ^ bit == 2 ^ (64 - bit) - 1)
+
+-- whether an address is canonical for so many levels: its bits 63:56 are all equal for five, and its bits 63:47 for four
+abbrev pub is_canonical : ℕ → ℕ → Bool
+is_canonical levels address = if levels == 5 then is_extended 56 address else is_extended 47 address
 
 -- the index at a level into the table of that level: bits 20:12 of the address at level 1, and 9 bits further up for each level above
 abbrev pub guest_index : ℕ → ℕ → ℕ

@@ -3,6 +3,7 @@ pub mod Aes
 pub mod AesField
 pub mod Allowed
 pub mod Attempts
+pub mod Bounds
 pub mod CommandLine
 pub mod Ending
 pub mod Entries
@@ -10,6 +11,9 @@ pub mod EventText
 pub mod Facts
 pub mod Faults
 pub mod Findings
+pub mod Firmware
+pub mod FirmwareCommits
+pub mod FirmwareLocks
 pub mod Gcm
 pub mod GuestMemory
 pub mod GuestReads
@@ -20,12 +24,15 @@ pub mod Journal
 pub mod Lines
 pub mod Locks
 pub mod Measurement
+pub mod Metadata
 pub mod NestedReads
 pub mod NestedWalk
 pub mod OpenAttempts
 pub mod Opening
 pub mod Operations
+pub mod Outcomes
 pub mod Outside
+pub mod PageStates
 pub mod Polynomials
 pub mod Reading
 pub mod RegionWords
@@ -33,6 +40,7 @@ pub mod Report
 pub mod Room
 pub mod Run
 pub mod ScenarioLines
+pub mod Sealing
 pub mod Skips
 pub mod Sound
 pub mod State

@@ -14,11 +14,11 @@ covers frame lock = in_range lock.base lock.count frame
 
 -- whether an actor has locked a frame
 abbrev pub locks_frame : ℕ → ActorPart → Bool
-locks_frame frame part = list_any (covers frame) part.locks
+locks_frame frame part = list_any (covers frame) part.standing.locks
 
 -- whether an actor has locked a guest's context
 abbrev pub locks_context : ℕ → ActorPart → Bool
-locks_context guest part = unwrap_or (option_map (λ locked. locked == guest) part.context_lock) (is_some part.context_lock)
+locks_context guest part = unwrap_or (option_map (λ locked. locked == guest) part.standing.context_lock) (is_some part.standing.context_lock)
 
 -- the first actor of the list, whose numbers begin at `first`, that has locked a frame
 unfoldable pub holder_from : ℕ → List ActorPart → ℕ → Option ℕ

@@ -4,39 +4,47 @@ use Rattle.snp_model.specs.declared.entry.PageSize.{PageSize}
 use Rattle.snp_model.specs.declared.event.Deed.{Deed}
 use Rattle.snp_model.specs.declared.event.Deed.TheVariants as deeds
 use Rattle.snp_model.specs.declared.item.Item.{Item}
-use Rattle.snp_model.specs.declared.item.Item.TheVariants.{Access}
-use Rattle.snp_model.specs.declared.item.Op.{Op}
+use Rattle.snp_model.specs.declared.item.Item.TheVariants as items
 use Rattle.snp_model.specs.declared.scenario.Role.{Role}
-use Rattle.snp_model.specs.declared.scenario.Role.TheVariants.{Cpu}
+use Rattle.snp_model.specs.declared.scenario.Role.TheVariants.{Cpu, Host, Firmware}
+use Rattle.snp_model.specs.declared.walk.Lookup.{Lookup}
 use Rattle.snp_model.specs.declared.walk.Need.TheVariants as needs
-use Rattle.snp_model.specs.GuestWalk.{is_canonical}
+use Rattle.snp_model.specs.GuestWalk.{levels_of, is_canonical}
 use Rattle.snp_model.specs.State.{ActorPart, Contents, State, word_of}
 use Rattle.snp_model.specs.Step.{line_at, table_word}
-use Rattle.snp_model.specs.Walking.{Processor, need_after}
+use Rattle.snp_model.specs.Walking.{Processor, lookup_of, need_after}
 
--- after some deeds an access calls for this one: a read of the word that it then needs
-abbrev pub CallsFor : ℕ → Processor → ℕ → Op → List Deed → Deed → Type 0
-CallsFor frames cpu address op made (deeds.Nested frame index value) = need_after frames cpu address op made ≡ needs.Nested frame index
-CallsFor frames cpu address op made (deeds.Table gpn index frame (Some value)) =
-    (size : PageSize) × (need_after frames cpu address op made ≡ needs.Table gpn index frame size)
-CallsFor frames cpu address op made deed = ⊥
+-- after some deeds an item calls for this one: a read of the word that it then needs
+abbrev pub CallsFor : ℕ → Processor → Lookup → List Deed → Deed → Type 0
+CallsFor frames cpu lookup made (deeds.Nested frame index value) = need_after frames cpu lookup made ≡ needs.Nested frame index
+CallsFor frames cpu lookup made (deeds.Table gpn index frame (Some value)) =
+    (size : PageSize) × (need_after frames cpu lookup made ≡ needs.Table gpn index frame size)
+CallsFor frames cpu lookup made deed = ⊥
 
 -- so for each of the deeds that follow
-unfoldable pub AreCalledFor : ℕ → Processor → ℕ → Op → List Deed → List Deed → Type 0
-AreCalledFor frames cpu address op made [] = Unit {0}
-AreCalledFor frames cpu address op made (deed ∷ others) =
-    CallsFor frames cpu address op made deed × AreCalledFor frames cpu address op (made ++ deed ∷ []) others
+unfoldable pub AreCalledFor : ℕ → Processor → Lookup → List Deed → List Deed → Type 0
+AreCalledFor frames cpu lookup made [] = Unit {0}
+AreCalledFor frames cpu lookup made (deed ∷ others) =
+    CallsFor frames cpu lookup made deed × AreCalledFor frames cpu lookup (made ++ deed ∷ []) others
 
--- an access has begun, at a canonical address, and has read the words of its walks
-unfoldable pub IsAccess : ℕ → Processor → ℕ → Op → List Deed → Type 0
-IsAccess frames cpu address op [] = Unit {0}
-IsAccess frames cpu address op (deeds.Begin ∷ others) = (is_canonical address ≡ true) × AreCalledFor frames cpu address op (deeds.Begin ∷ []) others
-IsAccess frames cpu address op (deed ∷ others) = ⊥
+-- an item has begun, at a canonical address, and has read the words of its walks
+unfoldable pub IsWalk : ℕ → Processor → Lookup → List Deed → Type 0
+IsWalk frames cpu lookup [] = Unit {0}
+IsWalk frames cpu lookup (deeds.Begin ∷ others) = (is_canonical (levels_of cpu.paging) lookup.address ≡ true) × AreCalledFor frames cpu lookup (deeds.Begin ∷ []) others
+IsWalk frames cpu lookup (deed ∷ others) = ⊥
 
 -- an attempt of an item, by the role of its actor; any but a guest processor's access ends with its first event
 unfoldable pub IsAttempt : ℕ → Role → Item → List Deed → Type 0
-IsAttempt frames (Cpu guest vmpl npt paging) (Access address op) made = IsAccess frames (record { guest = guest; vmpl = vmpl; npt = npt; paging = paging }) address op made
-IsAttempt frames role item made = made ≡ []
+IsAttempt frames (Cpu guest vmpl npt paging) (items.Access address op) made =
+    IsWalk frames (record { guest = guest; vmpl = vmpl; npt = npt; paging = paging }) (lookup_of address op) made
+IsAttempt frames (Cpu guest vmpl npt paging) (items.Pvalidate address size validate) made = made ≡ []
+IsAttempt frames (Cpu guest vmpl npt paging) (items.Rmpadjust address size target mask vmsa) made = made ≡ []
+IsAttempt frames (Cpu guest vmpl npt paging) (items.Rmpupdate update) made = made ≡ []
+IsAttempt frames (Cpu guest vmpl npt paging) (items.Psmash frame) made = made ≡ []
+IsAttempt frames (Cpu guest vmpl npt paging) (items.Firmware command) made = made ≡ []
+IsAttempt frames (Cpu guest vmpl npt paging) (items.Skip count test) made = made ≡ []
+IsAttempt frames Host item made = made ≡ []
+IsAttempt frames Firmware item made = made ≡ []
 
 -- the open attempt of an actor
 abbrev pub IsWalking : ℕ → ActorPart → Type 0

@@ -11,7 +11,7 @@ use Rattle.snp_model.specs.declared.scenario.PageSpec.{PageSpec}
 use Rattle.snp_model.specs.declared.scenario.WordSpec.{WordSpec}
 use Rattle.snp_model.specs.declared.scenario.Scenario.{Scenario}
 use Rattle.snp_model.specs.Facts.{free_entry}
-use Rattle.snp_model.specs.State.{Context, Contexts, ActorPart, State, zero_words}
+use Rattle.snp_model.specs.State.{Context, Contexts, ActorPart, State, nothing_taken, zero_words}
 use Rattle.snp_model.specs.Locks.{in_range}
 
 -- how many frames a page has
@@ -60,7 +60,7 @@ opening_contexts guests guest = opening_context (slice_get guests (guest - 1))
 -- an actor before its first item
 abbrev pub opening_part : Actor → ActorPart
 opening_part actor =
-    record { role = actor.role; script = actor.script; item = 0; attempt = 0; deeds = []; locks = []; context_lock = None; computed = None; last = None }
+    record { role = actor.role; script = actor.script; item = 0; attempt = 0; deeds = []; standing = nothing_taken; last = None }
 
 -- every frame is free with zero words, but for the pages and words that the scenario names
 unfoldable pub opening : Scenario → State

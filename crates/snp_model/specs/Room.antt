@@ -25,10 +25,10 @@ parts_room (part ∷ parts) = part_room part + parts_room parts
 unfoldable pub room_of : State → ℕ
 room_of m = parts_room m.actors
 
--- the deeds of an open attempt: it begins, reads at most four words of nested tables and then one of a guest table for each of at most four levels, and then at most four of nested tables
+-- the deeds of an open attempt: it begins, reads at most four words of nested tables and then one of a guest table for each of at most five levels, and then at most four of nested tables
 pub record IsShort (deeds : List Deed) : Type 0 where
   pub walked : length deeds ≤ 1 + 5 * length (guest_words deeds) + length (nested_words deeds)
-  pub few_tables : length (guest_words deeds) ≤ 4
+  pub few_tables : length (guest_words deeds) ≤ 5
   pub few : length (nested_words deeds) ≤ 4
 
 -- an actor's open attempt is short, and it is one of those that its line has

@@ -1,27 +1,10 @@
 -- Skips (this project's own): an item that passes over items after it, by a test on its actor's last outcome that isn't of a skip.
-use Rattle.std.specs.Prelude.{ℕ, ◌==◌, Bool, true, false, not, if◌then◌else◌, Option, Some, None}
+use Rattle.std.specs.Prelude.{ℕ, ◌==◌, Bool, false, if◌then◌else◌, Option, Some, None}
 use Rattle.snp_model.specs.declared.event.Outcome.{Outcome}
-use Rattle.snp_model.specs.declared.event.Outcome.TheVariants.{Loaded, Opaque, Stored, Swapped, Compared, Status, Carry, Firmware, Next, Skipped}
+use Rattle.snp_model.specs.declared.event.Outcome.TheVariants.{Loaded, Swapped, Compared, Next, Skipped}
 use Rattle.snp_model.specs.declared.item.SkipTest.{SkipTest}
 use Rattle.snp_model.specs.declared.item.SkipTest.TheVariants.{Good, Bad, Value}
-
--- whether an outcome is good
-unfoldable pub is_good : Outcome → Bool
-is_good (Loaded value) = true
-is_good Opaque = true
-is_good Stored = true
-is_good (Swapped value) = true
-is_good (Compared found written) = written
-is_good (Status status) = status == 0
-is_good (Carry carry) = true
-is_good (Firmware status) = status == 0
-is_good outcome = false
-
--- whether an outcome is bad: every other one but those of skips
-unfoldable pub is_bad : Outcome → Bool
-is_bad Next = false
-is_bad (Skipped count) = false
-is_bad outcome = not (is_good outcome)
+use Rattle.snp_model.specs.Outcomes.{is_good, is_bad}
 
 -- whether an outcome gives this value; a compare gives the word that it found, whether or not it wrote
 unfoldable pub gives : ℕ → Outcome → Bool

@@ -1,5 +1,5 @@
 -- The bounds that every scenario has which a text can say, as facts on its lists. They are this project's own.
-use Rattle.std.specs.Prelude.{◌≡◌, ℕ, ◌*◌, ◌%◌, ◌^◌, ◌<◌, ◌≤◌, ◌≢◌, true, List, [], ◌∷◌, length}
+use Rattle.std.specs.Prelude.{◌≡◌, ℕ, ◌^◌, ◌<◌, ◌≤◌, ◌≢◌, true, List, [], ◌∷◌, length}
 use Rattle.std.specs.List.{AllByRecursion}
 use Rattle.snp_model.specs.declared.entry.PageSize.TheVariants.{Small}
 use Rattle.snp_model.specs.declared.scenario.Scenario.{Scenario}
@@ -8,13 +8,7 @@ use Rattle.snp_model.specs.declared.scenario.PageSpec.{PageSpec}
 use Rattle.snp_model.specs.declared.scenario.WordSpec.{WordSpec}
 use Rattle.snp_model.specs.declared.scenario.Turn.{Turn}
 use Rattle.snp_model.specs.declared.scenario.Actor.{Actor}
-use Rattle.snp_model.specs.declared.scenario.Role.{Role}
-use Rattle.snp_model.specs.declared.scenario.Role.TheVariants.{Cpu, Host, Firmware}
-use Rattle.snp_model.specs.declared.scenario.Paging.{Paging}
-use Rattle.snp_model.specs.declared.scenario.Paging.TheVariants.{Flat, Four}
-use Rattle.snp_model.specs.declared.item.Line.{Line}
-use Rattle.snp_model.specs.declared.item.Item.{Item}
-use Rattle.snp_model.specs.declared.item.Item.TheVariants.{Access, Skip}
+use Rattle.snp_model.specs.Bounds.{IsRole, IsLineOf}
 use Rattle.snp_model.specs.ScenarioLines.{frames_of}
 use Rattle.snp_model.specs.Attempts.{attempts_of}
 use Rattle.snp_model.specs.Reading.{order_of}
@@ -53,56 +47,6 @@ GpnsDiffer page other = page.guest ≡ other.guest → page.gpn ≢ other.gpn
 pub record IsWord (frames : ℕ) (word : WordSpec) : Type 0 where
   pub frame : word.frame < frames
   pub index : word.index < 512
-
--- guest tables begin at a guest page number, where there are any
-abbrev pub IsPaging : Paging → Type 0
-IsPaging Flat = Unit {0}
-IsPaging (Four root) = root < 2 ^ 36
-
--- a guest processor, of one of so many guests
-pub record IsCpu (frames guests guest vmpl npt : ℕ) (paging : Paging) : Type 0 where
-  pub guest_some : 0 < guest
-  pub guest_most : guest ≤ guests
-  pub vmpl_below : vmpl < 4
-  pub npt_below : npt < frames
-  pub root_below : IsPaging paging
-
--- a role
-abbrev pub IsRole : ℕ → ℕ → Role → Type 0
-IsRole frames guests (Cpu guest vmpl npt paging) = IsCpu frames guests guest vmpl npt paging
-IsRole frames guests Host = Unit {0}
-IsRole frames guests Firmware = ⊥
-
--- a skip passes over 1 to 8,192 items
-abbrev pub IsSkip : ℕ → Type 0
-IsSkip count = (1 ≤ count) × (count ≤ 8192)
-
--- an item of a guest processor; an access has any address that is a multiple of 8
-abbrev pub IsCpuItem : Item → Type 0
-IsCpuItem (Access address op) = address % 8 ≡ 0
-IsCpuItem (Skip count test) = IsSkip count
-IsCpuItem item = ⊥
-
--- an item of a hypervisor processor; an access has such an address in memory
-abbrev pub IsHostItem : ℕ → Item → Type 0
-IsHostItem frames (Access address op) = (address < 4096 * frames) × (address % 8 ≡ 0)
-IsHostItem frames (Skip count test) = IsSkip count
-IsHostItem frames item = ⊥
-
--- an item of a firmware actor
-abbrev pub IsFirmwareItem : Item → Type 0
-IsFirmwareItem (Skip count test) = IsSkip count
-IsFirmwareItem item = ⊥
-
--- an item that an actor with this role may have
-abbrev pub IsItemOf : ℕ → Role → Item → Type 0
-IsItemOf frames (Cpu guest vmpl npt paging) item = IsCpuItem item
-IsItemOf frames Host item = IsHostItem frames item
-IsItemOf frames Firmware item = IsFirmwareItem item
-
-pub record IsLineOf (frames : ℕ) (role : Role) (line : Line) : Type 0 where
-  pub item : IsItemOf frames role line.item
-  pub retries : line.retries < 256
 
 -- an actor
 pub record IsActor (frames guests : ℕ) (actor : Actor) : Type 0 where

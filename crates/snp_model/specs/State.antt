@@ -49,6 +49,16 @@ pub record Computed : Type 0 where
   pub words : List ℕ
   pub entry : Option MetaEntry
 
+-- what an open attempt has taken and made so far
+pub record Standing : Type 0 where
+  pub locks : List PageLock  -- of pages, the oldest first
+  pub context_lock : Option ℕ  -- the guest whose context it has locked
+  pub computed : Option Computed  -- what its compute made
+
+-- what one has before its first event
+abbrev pub nothing_taken : Standing
+nothing_taken = record { locks = []; context_lock = None; computed = None }
+
 -- an actor's own part of the state
 pub record ActorPart : Type 0 where
   pub role : Role
@@ -56,9 +66,7 @@ pub record ActorPart : Type 0 where
   pub item : ℕ  -- the place of its item, from 0; past the script's end it is finished
   pub attempt : ℕ  -- of that item, from 0
   pub deeds : List Deed  -- of the open attempt so far, the oldest first
-  pub locks : List PageLock  -- that the open attempt has taken, the oldest first
-  pub context_lock : Option ℕ  -- the guest whose context it has locked
-  pub computed : Option Computed  -- what its compute made
+  pub standing : Standing  -- of the open attempt
   pub last : Option Outcome  -- the last outcome that isn't of a skip
 
 -- what events change beside the actors' own parts
@@ -80,7 +88,7 @@ pub record View : Type 0 where
 
 -- an actor without items
 unfoldable pub idle_part : ActorPart
-idle_part = record { role = Host; script = []; item = 0; attempt = 0; deeds = []; locks = []; context_lock = None; computed = None; last = None }
+idle_part = record { role = Host; script = []; item = 0; attempt = 0; deeds = []; standing = nothing_taken; last = None }
 
 -- an actor's part, by number from 1
 abbrev pub part_of : State → ℕ → ActorPart

@@ -1,17 +1,18 @@
--- Which regions of memory, and which guest's context, the next event of an actor may read or write. It is told by the actor's own part and the size of memory alone. This project's own.
+-- Which regions of memory, and which guest's context, the next event of an actor may read or write. It is told by the actor's own part, the size of memory and the declared guests alone. This project's own.
 use Rattle.std.specs.Prelude.{◌≡◌, ℕ, ◌/◌, ◌==◌, Bool, true, false, List, [], ◌∷◌, Option, Some, None}
 use Rattle.std.specs.List.{list_any}
 use Rattle.snp_model.specs.declared.event.Deed.{Deed}
 use Rattle.snp_model.specs.declared.item.Item.{Item}
-use Rattle.snp_model.specs.declared.item.Item.TheVariants.{Access}
-use Rattle.snp_model.specs.declared.item.Op.{Op}
+use Rattle.snp_model.specs.declared.item.Item.TheVariants as items
+use Rattle.snp_model.specs.declared.scenario.GuestSpec.{GuestSpec}
 use Rattle.snp_model.specs.declared.scenario.Role.{Role}
-use Rattle.snp_model.specs.declared.scenario.Role.TheVariants.{Cpu, Host}
+use Rattle.snp_model.specs.declared.scenario.Role.TheVariants.{Cpu, Host, Firmware}
+use Rattle.snp_model.specs.declared.walk.Lookup.{Lookup}
 use Rattle.snp_model.specs.declared.walk.Need.{Need}
 use Rattle.snp_model.specs.declared.walk.Need.TheVariants as needs
 use Rattle.snp_model.specs.State.{ActorPart, Contents, View}
 use Rattle.snp_model.specs.Step.{Stepped, line_at}
-use Rattle.snp_model.specs.Walking.{Processor, need_after}
+use Rattle.snp_model.specs.Walking.{Processor, lookup_of, need_after}
 
 -- the region of a frame: regions have 512 frames
 abbrev pub region_of : ℕ → ℕ
@@ -22,39 +23,58 @@ pub record Touched : Type 0 where
   pub regions : List ℕ
   pub context : Option ℕ
 
-abbrev pub no_part : Touched
-no_part = record { regions = []; context = None }
+-- nothing
+abbrev pub nothing_touched : Touched
+nothing_touched = record { regions = []; context = None }
 
 -- the region of one frame
-abbrev pub frame_part : ℕ → Touched
-frame_part frame = record { regions = region_of frame ∷ []; context = None }
+abbrev pub frame_touched : ℕ → Touched
+frame_touched frame = record { regions = region_of frame ∷ []; context = None }
 
 -- the context of one guest
-abbrev pub context_part : ℕ → Touched
-context_part guest = record { regions = []; context = Some guest }
+abbrev pub context_touched : ℕ → Touched
+context_touched guest = record { regions = []; context = Some guest }
 
--- an access that has begun touches the frame of the word that it needs
+-- an item that has begun touches the frame of the word or page that it needs
 unfoldable pub need_touches : Need → Touched
-need_touches (needs.Nested frame index) = frame_part frame
-need_touches (needs.Table gpn index frame size) = frame_part frame
-need_touches (needs.Data gpn private frame size) = frame_part frame
-need_touches (needs.Fault outcome) = no_part
+need_touches (needs.Nested frame index) = frame_touched frame
+need_touches (needs.Table gpn index frame size) = frame_touched frame
+need_touches (needs.Data gpn private frame size) = frame_touched frame
+need_touches (needs.Fault outcome) = nothing_touched
 
--- an access of a guest processor: its beginning asks whether the guest runs
-unfoldable pub cpu_touches : ℕ → Processor → ℕ → Op → List Deed → Touched
-cpu_touches frames cpu address op [] = context_part cpu.guest
-cpu_touches frames cpu address op (deed ∷ others) = need_touches (need_after frames cpu address op (deed ∷ others))
+-- an item of a guest processor that walks: its beginning asks whether the guest runs
+unfoldable pub walk_touches : ℕ → Processor → Lookup → List Deed → Touched
+walk_touches frames cpu lookup [] = context_touched cpu.guest
+walk_touches frames cpu lookup (deed ∷ others) = need_touches (need_after frames cpu lookup (deed ∷ others))
 
 -- the next event of an item, by the role of its actor
-unfoldable pub item_touches : ℕ → List Deed → Role → Item → Touched
-item_touches frames made (Cpu guest vmpl npt paging) (Access address op) =
-    cpu_touches frames (record { guest = guest; vmpl = vmpl; npt = npt; paging = paging }) address op made
-item_touches frames made Host (Access address op) = frame_part (address / 4096)
-item_touches frames made role item = no_part
+unfoldable pub item_touches : ℕ → List GuestSpec → ActorPart → Role → Item → Touched
+item_touches frames guests part (Cpu guest vmpl npt paging) (items.Access address op) =
+    walk_touches frames (record { guest = guest; vmpl = vmpl; npt = npt; paging = paging }) (lookup_of address op) part.deeds
+item_touches frames guests part (Cpu guest vmpl npt paging) (items.Pvalidate address size validate) = nothing_touched
+item_touches frames guests part (Cpu guest vmpl npt paging) (items.Rmpadjust address size target mask vmsa) = nothing_touched
+item_touches frames guests part (Cpu guest vmpl npt paging) (items.Rmpupdate update) = nothing_touched
+item_touches frames guests part (Cpu guest vmpl npt paging) (items.Psmash frame) = nothing_touched
+item_touches frames guests part (Cpu guest vmpl npt paging) (items.Firmware command) = nothing_touched
+item_touches frames guests part (Cpu guest vmpl npt paging) (items.Skip count test) = nothing_touched
+item_touches frames guests part Host (items.Access address op) = frame_touched (address / 4096)
+item_touches frames guests part Host (items.Pvalidate address size validate) = nothing_touched
+item_touches frames guests part Host (items.Rmpadjust address size target mask vmsa) = nothing_touched
+item_touches frames guests part Host (items.Rmpupdate update) = nothing_touched
+item_touches frames guests part Host (items.Psmash frame) = nothing_touched
+item_touches frames guests part Host (items.Firmware command) = nothing_touched
+item_touches frames guests part Host (items.Skip count test) = nothing_touched
+item_touches frames guests part Firmware (items.Access address op) = nothing_touched
+item_touches frames guests part Firmware (items.Pvalidate address size validate) = nothing_touched
+item_touches frames guests part Firmware (items.Rmpadjust address size target mask vmsa) = nothing_touched
+item_touches frames guests part Firmware (items.Rmpupdate update) = nothing_touched
+item_touches frames guests part Firmware (items.Psmash frame) = nothing_touched
+item_touches frames guests part Firmware (items.Firmware command) = nothing_touched
+item_touches frames guests part Firmware (items.Skip count test) = nothing_touched
 
 -- the next event of an actor
-abbrev pub touches : ℕ → ActorPart → Touched
-touches frames part = item_touches frames part.deeds part.role (line_at part.script part.item).item
+abbrev pub touches : ℕ → List GuestSpec → ActorPart → Touched
+touches frames guests part = item_touches frames guests part part.role (line_at part.script part.item).item
 
 -- whether a frame is touched
 abbrev pub touches_frame : Touched → ℕ → Bool

@@ -1,3 +1,6 @@
+ghost use Rattle.std.specs.Prelude.{◌≡◌};
+ghost use Rattle.snp_model.specs.Outcomes.{good_where, class_of, is_good, is_bad, is_in_use};
+
 use crate::PageSize;
 
 /// What one event does. Frames of `Lock` are any number, since a lock may be asked of a frame outside
@@ -95,6 +98,94 @@ pub enum Outcome {
     Next,
     /// A skip passes over this many items.
     Skipped(u32),
+}
+
+/// What sort of outcome one is.
+#[derive(Clone, Copy, Debug, PartialEq, Eq)]
+pub enum OutcomeClass {
+    /// The item was done.
+    Good,
+    /// It wasn't, or it did less than was asked.
+    Bad,
+    /// It wasn't, since another actor holds a lock: it is bad too, and the item can be tried again.
+    InUse,
+    /// A skip's: neither good nor bad.
+    Skip,
+}
+
+impl Outcome {
+    /// What sort of outcome it is.
+    pub fn class(&self) -> OutcomeClass
+        ensures { result ≡ class_of self.now }
+    {
+        match self {
+            Outcome::Loaded(_) => OutcomeClass::Good,
+            Outcome::Opaque => OutcomeClass::Good,
+            Outcome::Stored => OutcomeClass::Good,
+            Outcome::Swapped(_) => OutcomeClass::Good,
+            Outcome::Compared { written, .. } => good_where(*written),
+            Outcome::Gp => OutcomeClass::Bad,
+            Outcome::Pf(_) => OutcomeClass::Bad,
+            Outcome::Npf(_) => OutcomeClass::Bad,
+            Outcome::Vc(_) => OutcomeClass::Bad,
+            Outcome::Offline => OutcomeClass::Bad,
+            Outcome::Status(status) => good_where(*status == 0),
+            Outcome::Carry(_) => OutcomeClass::Good,
+            Outcome::StatusInUse { .. } => OutcomeClass::InUse,
+            Outcome::Firmware(status) => good_where(*status == 0),
+            Outcome::FirmwareInUse { .. } => OutcomeClass::InUse,
+            Outcome::BadTag { .. } => OutcomeClass::Bad,
+            Outcome::Next => OutcomeClass::Skip,
+            Outcome::Skipped(_) => OutcomeClass::Skip,
+        }
+    }
+
+    /// Whether it is good.
+    pub fn is_good(&self) -> bool
+        ensures { result ≡ is_good self.now }
+    {
+        match self.class() {
+            OutcomeClass::Good => true,
+            OutcomeClass::Bad => false,
+            OutcomeClass::InUse => false,
+            OutcomeClass::Skip => false,
+        }
+    }
+
+    /// Whether it is bad: every one that isn't good, but those of skips.
+    pub fn is_bad(&self) -> bool
+        ensures { result ≡ is_bad self.now }
+    {
+        match self.class() {
+            OutcomeClass::Good => false,
+            OutcomeClass::Bad => true,
+            OutcomeClass::InUse => true,
+            OutcomeClass::Skip => false,
+        }
+    }
+
+    /// Whether something was in use.
+    pub fn is_in_use(&self) -> bool
+        ensures { result ≡ is_in_use self.now }
+    {
+        match self.class() {
+            OutcomeClass::Good => false,
+            OutcomeClass::Bad => false,
+            OutcomeClass::InUse => true,
+            OutcomeClass::Skip => false,
+        }
+    }
+}
+
+// Good where a test holds, and else bad.
+fn good_where(test: bool) -> OutcomeClass
+    ensures { result ≡ good_where test }
+{
+    if test {
+        OutcomeClass::Good
+    } else {
+        OutcomeClass::Bad
+    }
 }
 
 /// One event of an actor. Items and attempts count from 0. An event with an outcome ends its attempt.

@@ -7,6 +7,8 @@ pub enum Paging {
     Flat,
     /// Four levels from the table at this guest page number, below 2^36 (APM volume 2, 5.3).
     Four(u64),
+    /// Five levels from the table at this guest page number, below 2^36 (APM volume 2, 5.3).
+    Five(u64),
 }
 
 /// What an actor is.

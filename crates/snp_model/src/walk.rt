@@ -28,10 +28,21 @@ pub enum NestedEnd {
     Fault(u64),
 }
 
+/// What the walks of a guest processor's item look up.
+#[derive(Clone, Copy, Debug, PartialEq, Eq)]
+pub struct Lookup {
+    /// The virtual address.
+    pub address: u64,
+    /// Whether the walks are those of a write.
+    pub write: bool,
+    /// Whether the leaf's C bit counts. Where it doesn't, the translation is private whatever the bit is.
+    pub c_bit: bool,
+}
+
 /// What a guest walk begins from.
 #[derive(Clone, Copy, Debug, PartialEq, Eq)]
 pub struct GuestPath {
-    /// How many levels of tables there are.
+    /// How many levels of tables there are, 4 or 5.
     pub levels: u8,
     /// The guest page number of the first table, below 2^36.
     pub root: u64,

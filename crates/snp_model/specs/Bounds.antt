@@ -1,0 +1,99 @@
+-- The bounds on the numbers of roles, of items and of the ends of walks. They are this project's own.
+use Rattle.std.specs.Prelude.{◌≡◌, ℕ, ◌*◌, ◌%◌, ◌^◌, ◌<◌, ◌≤◌}
+use Rattle.snp_model.specs.declared.item.Item.{Item}
+use Rattle.snp_model.specs.declared.item.Item.TheVariants as items
+use Rattle.snp_model.specs.declared.item.Line.{Line}
+use Rattle.snp_model.specs.declared.scenario.Paging.{Paging}
+use Rattle.snp_model.specs.declared.scenario.Paging.TheVariants.{Flat, Four, Five}
+use Rattle.snp_model.specs.declared.scenario.Role.{Role}
+use Rattle.snp_model.specs.declared.scenario.Role.TheVariants.{Cpu, Host, Firmware}
+use Rattle.snp_model.specs.declared.walk.GuestEnd.{GuestEnd}
+use Rattle.snp_model.specs.declared.walk.GuestEnd.TheVariants as guest_ends
+use Rattle.snp_model.specs.declared.walk.Need.{Need}
+use Rattle.snp_model.specs.declared.walk.Need.TheVariants as needs
+use Rattle.snp_model.specs.declared.walk.NestedEnd.{NestedEnd}
+use Rattle.snp_model.specs.declared.walk.NestedEnd.TheVariants as ends
+
+-- guest tables begin at a guest page number, where there are any
+abbrev pub IsPaging : Paging → Type 0
+IsPaging Flat = Unit {0}
+IsPaging (Four root) = root < 2 ^ 36
+IsPaging (Five root) = root < 2 ^ 36
+
+-- a guest processor, of one of so many guests
+pub record IsCpu (frames guests guest vmpl npt : ℕ) (paging : Paging) : Type 0 where
+  pub guest_some : 0 < guest
+  pub guest_most : guest ≤ guests
+  pub vmpl_below : vmpl < 4
+  pub npt_below : npt < frames
+  pub root_below : IsPaging paging
+
+-- a role; no scenario has a firmware actor yet
+abbrev pub IsRole : ℕ → ℕ → Role → Type 0
+IsRole frames guests (Cpu guest vmpl npt paging) = IsCpu frames guests guest vmpl npt paging
+IsRole frames guests Host = Unit {0}
+IsRole frames guests Firmware = ⊥
+
+-- a skip passes over 1 to 8,192 items
+abbrev pub IsSkip : ℕ → Type 0
+IsSkip count = (1 ≤ count) × (count ≤ 8192)
+
+-- an item of a guest processor; an access has any address that is a multiple of 8
+abbrev pub IsCpuItem : Item → Type 0
+IsCpuItem (items.Access address op) = address % 8 ≡ 0
+IsCpuItem (items.Pvalidate address size validate) = ⊥
+IsCpuItem (items.Rmpadjust address size target mask vmsa) = ⊥
+IsCpuItem (items.Rmpupdate update) = ⊥
+IsCpuItem (items.Psmash frame) = ⊥
+IsCpuItem (items.Firmware command) = ⊥
+IsCpuItem (items.Skip count test) = IsSkip count
+
+-- an item of a hypervisor processor; an access has such an address in memory
+abbrev pub IsHostItem : ℕ → Item → Type 0
+IsHostItem frames (items.Access address op) = (address < 4096 * frames) × (address % 8 ≡ 0)
+IsHostItem frames (items.Pvalidate address size validate) = ⊥
+IsHostItem frames (items.Rmpadjust address size target mask vmsa) = ⊥
+IsHostItem frames (items.Rmpupdate update) = ⊥
+IsHostItem frames (items.Psmash frame) = ⊥
+IsHostItem frames (items.Firmware command) = ⊥
+IsHostItem frames (items.Skip count test) = IsSkip count
+
+-- an item of a firmware actor
+abbrev pub IsFirmwareItem : Item → Type 0
+IsFirmwareItem (items.Access address op) = ⊥
+IsFirmwareItem (items.Pvalidate address size validate) = ⊥
+IsFirmwareItem (items.Rmpadjust address size target mask vmsa) = ⊥
+IsFirmwareItem (items.Rmpupdate update) = ⊥
+IsFirmwareItem (items.Psmash frame) = ⊥
+IsFirmwareItem (items.Firmware command) = ⊥
+IsFirmwareItem (items.Skip count test) = IsSkip count
+
+-- an item that an actor with this role may have
+abbrev pub IsItemOf : ℕ → Role → Item → Type 0
+IsItemOf frames (Cpu guest vmpl npt paging) item = IsCpuItem item
+IsItemOf frames Host item = IsHostItem frames item
+IsItemOf frames Firmware item = IsFirmwareItem item
+
+-- a line of a script
+pub record IsLineOf (frames : ℕ) (role : Role) (line : Line) : Type 0 where
+  pub item : IsItemOf frames role line.item
+  pub retries : line.retries < 256
+
+-- the frames and indexes of a nested walk are in range
+abbrev pub IsNestedInside : ℕ → NestedEnd → Type 0
+IsNestedInside frames (ends.Read frame index) = (frame < frames) × (index < 512)
+IsNestedInside frames (ends.Leaf frame size) = frame < frames
+IsNestedInside frames (ends.Fault code) = Unit {0}
+
+-- the guest page numbers and indexes of a guest walk are in range
+abbrev pub IsGuestInside : GuestEnd → Type 0
+IsGuestInside (guest_ends.Read gpn index) = (gpn < 2 ^ 36) × (index < 512)
+IsGuestInside (guest_ends.Leaf gpn private size) = gpn < 2 ^ 36
+IsGuestInside (guest_ends.Fault code) = Unit {0}
+
+-- what a walk needs is in range
+abbrev pub IsNeedInside : ℕ → Need → Type 0
+IsNeedInside frames (needs.Nested frame index) = (frame < frames) × (index < 512)
+IsNeedInside frames (needs.Table gpn index frame size) = (gpn < 2 ^ 36) × (index < 512) × (frame < frames)
+IsNeedInside frames (needs.Data gpn private frame size) = (gpn < 2 ^ 36) × (frame < frames)
+IsNeedInside frames (needs.Fault outcome) = Unit {0}
