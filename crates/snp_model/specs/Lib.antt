@@ -18,6 +18,7 @@ pub mod Gcm
 pub mod GuestMemory
 pub mod GuestReads
 pub mod GuestWalk
+pub mod HeldContexts
 pub mod Holders
 pub mod ItemLines
 pub mod Journal
