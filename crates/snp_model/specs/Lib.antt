@@ -19,6 +19,7 @@ pub mod Gcm
 pub mod GuestMemory
 pub mod GuestReads
 pub mod GuestWalk
+pub mod HeldContexts
 pub mod Holders
 pub mod InstructionStep
 pub mod ItemLines
