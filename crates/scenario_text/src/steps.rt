@@ -78,13 +78,14 @@ fn count_turns(turns: &[Turn]) -> u64
 }
 
 impl Draft {
-    /// The scenario of the line `snp 1`.
+    /// The scenario of the first line, which says the version.
     #[tactic(auto, unfolding(snp_model::specs::Attempts::actors_attempts, snp_model::specs::Reading::turns_count))]
-    pub fn new(alloc: Global) -> Draft
-        ensures { result.scenario ≡ first_scenario }
+    pub fn new(alloc: Global, version: u8) -> Draft
+        ensures { result.scenario ≡ first_scenario version }
     {
         Draft {
             scenario: Scenario {
+                version,
                 regions: 0,
                 guests: Listed::new(alloc),
                 pages: Listed::new(alloc),
