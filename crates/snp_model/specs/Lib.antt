@@ -17,6 +17,7 @@ pub mod GuestWalk
 pub mod Holders
 pub mod ItemLines
 pub mod Journal
+pub mod Limits
 pub mod Lines
 pub mod Locks
 pub mod Measurement
