@@ -7,10 +7,12 @@ pub mod GuestMemoryLaws
 pub mod GuestReadsLaws
 pub mod LocalityLaws
 pub mod MemoryLaws
+pub mod MetadataLaws
 pub mod NestedReadsLaws
 pub mod OpenAttemptsLaws
 pub mod OpeningLaws
 pub mod OrderedLaws
+pub mod PageBytesLaws
 pub mod ReadingLaws
 pub mod RegionLaws
 pub mod RoomLaws
