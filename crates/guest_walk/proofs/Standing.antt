@@ -1,5 +1,5 @@
 -- A walk that is fed with a word and goes on stands at its next read.
-use Rattle.std.proofs.Common.{◌≡◌, ℕ, suc, ◌+◌, ◌-◌, ◌^◌, ◌<◌, List, [], ◌∷◌, ◌++◌, length, take, set, replicate, refl, sym, ap, ◌∙◌, subst, append_assoc, length-set, arith}
+use Rattle.std.proofs.Common.{◌≡◌, ℕ, suc, ◌+◌, ◌-◌, ◌^◌, ◌<◌, ◌≤◌, List, [], ◌∷◌, ◌++◌, length, take, set, replicate, refl, sym, ap, ◌∙◌, subst, append_assoc, length-set, arith}
 use Rattle.std.proofs.lemmas.List.{take_more_set, set_at, length-take-le}
 use Rattle.snp_model.specs.declared.walk.GuestPath.{GuestPath}
 use Rattle.snp_model.specs.declared.walk.GuestEnd.{GuestEnd}
@@ -13,9 +13,9 @@ use Rattle.guest_walk.specs.Walk.{Walk, IsStanding}
 use Rattle.guest_walk.specs.Answer.{answer_at, answer_of, end_of}
 
 -- a walk that has read nothing stands at its first read
-pub standing_first : (path : GuestPath) → path.levels ≡ 4 → path.root < 2 ^ 36 → IsStanding path path.root (0 ∷ 0 ∷ 0 ∷ 0 ∷ 0 ∷ []) 0
+pub standing_first : (path : GuestPath) → 4 ≤ path.levels → path.levels ≤ 5 → path.root < 2 ^ 36 → IsStanding path path.root (0 ∷ 0 ∷ 0 ∷ 0 ∷ 0 ∷ []) 0
 unfolding guest_walk_from
-standing_first path levels below =
+standing_first path low high below =
     let d : path.levels ≡ path.levels - 0 = omega arith in
     record {
       levels = omega arith;

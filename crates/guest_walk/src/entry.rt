@@ -1,7 +1,7 @@
 ghost use Rattle.std.specs.Prelude.{◌≡◌, ◌≤◌, ◌<◌, ◌^◌, if◌then◌else◌};
 ghost use Rattle.snp_model.specs.NestedWalk.{has_bit, is_large_leaf};
 ghost use Rattle.snp_model.specs.GuestWalk as model;
-ghost use Rattle.guest_walk.specs.Entry.{EndIsBelow};
+ghost use Rattle.snp_model.specs.Bounds.{IsGuestInside};
 
 use snp_model::{GuestEnd, GuestPath, PageSize};
 
@@ -11,7 +11,7 @@ pub(crate) fn after_word(path: &GuestPath, level: usize, word: u64) -> GuestEnd
     requires low { 0 < level }
     requires high { level ≤ 5 }
     ensures value { result ≡ model.after_guest_word path.now level word }
-    ensures below { EndIsBelow result }
+    ensures inside { IsGuestInside result }
 {
     let gpn = gpn_below(path, level, word);
     let private = is_private_leaf(word);
@@ -39,12 +39,18 @@ pub(crate) fn after_word(path: &GuestPath, level: usize, word: u64) -> GuestEnd
     }
 }
 
-/// Whether an address is canonical: its bits 63:47 are all equal (APM volume 2, 5.3.1).
-pub fn is_canonical(address: u64) -> bool
-    ensures { result ≡ model.is_canonical address }
+/// Whether an address is canonical for so many levels of tables: its bits 63:56 are all equal for five, and its bits 63:47
+/// for four (APM volume 2, 5.3.1).
+pub fn is_canonical(levels: u8, address: u64) -> bool
+    ensures { result ≡ model.is_canonical levels address }
 {
-    let top = address / 0x8000_0000_0000;
-    top == 0 || top == 0x1_FFFF
+    if levels == 5 {
+        let top = address / 0x100_0000_0000_0000;
+        top == 0 || top == 0xFF
+    } else {
+        let top = address / 0x8000_0000_0000;
+        top == 0 || top == 0x1_FFFF
+    }
 }
 
 // The index of an address into the table of a level.

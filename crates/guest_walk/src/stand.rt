@@ -1,6 +1,6 @@
 ghost use Rattle.std.specs.Prelude.{◌≡◌, ◌<◌, ◌≤◌, ◌^◌, [], ◌∷◌, ◌++◌};
 ghost use Rattle.snp_model.specs.GuestWalk as model;
-ghost use Rattle.guest_walk.specs.Entry.{EndIsWithin};
+ghost use Rattle.snp_model.specs.Bounds.{IsGuestInside};
 
 use crate::entry::{after_word, guest_index};
 use snp_model::{GuestEnd, GuestPath};
@@ -11,7 +11,7 @@ pub fn guest_end(path: &GuestPath, words: &[u64]) -> GuestEnd
     requires high { path.now.levels ≤ 5 }
     requires root { path.now.root < 2 ^ 36 }
     ensures stands { result ≡ model.guest_end path.now words.now }
-    ensures inside { EndIsWithin result }
+    ensures inside { IsGuestInside result }
 {
     let mut level = path.levels as usize;
     let mut table = path.root;

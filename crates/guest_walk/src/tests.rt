@@ -43,6 +43,34 @@ fn reads_the_tables_in_turn(rt: HostRuntime) -> Result<(), NotCanonical> {
     Ok(())
 }
 
+// With five levels the first index is of bits 56:48.
+#[test]
+fn reads_five_tables(rt: HostRuntime) -> Result<(), NotCanonical> {
+    let mut walk = GuestWalk::start(5, 1, 0x5_0200_C040_1FF8, false)?;
+    for (word, gpn, index) in [
+        (0x2003, 1, 5),
+        (0x3003, 2, 4),
+        (0x4081, 3, 3),
+        (0x5003, 4, 2),
+    ] {
+        assert_eq!(rt; walk.needs(), GuestWord { gpn, index });
+        match walk.feed(word) {
+            GuestWalked::More(next) => walk = next,
+            _ => assert!(rt; false),
+        }
+    }
+    assert_eq!(rt; walk.needs(), GuestWord { gpn: 5, index: 1 });
+    assert_eq!(rt;
+        walk.feed(0x8_0000_0000_9003),
+        GuestWalked::Leaf {
+            gpn: 9,
+            private: true,
+            size: PageSize::Small
+        }
+    );
+    Ok(())
+}
+
 // Whether the access writes, the words of the tables from level 4 on, and the end, for an address with index 1 at
 // level 1.
 #[test]
@@ -99,20 +127,30 @@ fn ends_as_the_entries_say(rt: HostRuntime) -> Result<(), NotCanonical> {
         let walk = GuestWalk::start(4, 1, 0x1010, write)?;
         assert_eq!(rt; end_of(walk, &words), end, "write {write}: {words:?}");
     }
+    // Whether an address may be walked through four levels, and through five.
     let addresses = [
-        (0, true),
-        (0x7FFF_FFFF_FFFF, true),
-        (0x8000_0000_0000, false),
-        (0x1_0000_0000_0000, false),
-        (0xFFFF_7FFF_FFFF_FFFF, false),
-        (0xFFFF_8000_0000_0000, true),
-        (0xFFFF_FFFF_FFFF_FFFF, true),
+        (0, true, true),
+        (0x7FFF_FFFF_FFFF, true, true),
+        (0x8000_0000_0000, false, true),
+        (0x1_0000_0000_0000, false, true),
+        (0xFF_FFFF_FFFF_FFFF, false, true),
+        (0x100_0000_0000_0000, false, false),
+        (0xFEFF_FFFF_FFFF_FFFF, false, false),
+        (0xFF00_0000_0000_0000, false, true),
+        (0xFFFF_7FFF_FFFF_FFFF, false, true),
+        (0xFFFF_8000_0000_0000, true, true),
+        (0xFFFF_FFFF_FFFF_FFFF, true, true),
     ];
-    for (address, is_canonical) in addresses {
+    for (address, with_four, with_five) in addresses {
         assert_eq!(rt;
             GuestWalk::start(4, 1, address, false).is_ok(),
-            is_canonical,
+            with_four,
             "at {address}"
+        );
+        assert_eq!(rt;
+            GuestWalk::start(5, 1, address, false).is_ok(),
+            with_five,
+            "at {address}, with five levels"
         );
     }
     Ok(())

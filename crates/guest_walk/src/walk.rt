@@ -1,4 +1,4 @@
-ghost use Rattle.std.specs.Prelude.{◌≡◌, ◌^◌, ◌<◌, ◌↔◌, [], ◌∷◌, ◌++◌, IsTrue, IsOk, IfOk};
+ghost use Rattle.std.specs.Prelude.{◌≡◌, ◌^◌, ◌<◌, ◌≤◌, ◌↔◌, [], ◌∷◌, ◌++◌, IsTrue, IsOk, IfOk};
 ghost use Rattle.snp_model.specs.GuestWalk.{is_canonical, guest_end};
 ghost use Rattle.snp_model.specs.GuestReads.{IsGuestWalk, guest_reads};
 
@@ -38,7 +38,7 @@ impl Model for GuestWalk {
     } };
 }
 
-/// An address whose bits 63:47 aren't all equal.
+/// An address whose bits 63:47 aren't all equal, or for five levels its bits 63:56.
 #[derive(Clone, Copy, Debug, PartialEq, Eq)]
 pub struct NotCanonical;
 
@@ -70,23 +70,24 @@ pub enum GuestWalked {
 impl GuestWalk {
     ghost use Rattle.guest_walk.specs.Answer.{answer_of, end_of, LeafIsBelow};
 
-    /// A walk of an address through four levels of tables from the guest page number `root` on, of an access that
-    /// writes or not. It fails where bits 63:47 of the address aren't all equal.
+    /// A walk of an address through four or five levels of tables from the guest page number `root` on, of an access
+    /// that writes or not. It fails where bits 63:47 of the address aren't all equal, or for five levels bits 63:56.
     pub fn start(
         levels: u8,
         root: u64,
         address: u64,
         write: bool,
     ) -> Result<GuestWalk, NotCanonical>
-        requires levels { levels ≡ 4 }
+        requires levels_low { 4 ≤ levels }
+        requires levels_high { levels ≤ 5 }
         requires root { root < 2 ^ 36 }
-        ensures canonical { IsOk result ↔ IsTrue (is_canonical address) }
+        ensures canonical { IsOk result ↔ IsTrue (is_canonical levels address) }
         ensures walk { IfOk result (λ walk. walk ≡ record {
           path = record { levels = levels; root = root; address = address; write = write };
           words = [];
         }) }
     {
-        if !is_canonical(address) {
+        if !is_canonical(levels, address) {
             return Err(NotCanonical);
         }
         let path = GuestPath {

@@ -1,12 +1,19 @@
 -- The words that an actor keeps are those of its deeds.
-use Rattle.std.proofs.Common.{◌≡◌, ℕ, ◌+◌, ◌<◌, ◌≤◌, ◌^◌, List, [], ◌∷◌, ◌++◌, length, Some, None, refl, sym, ap, ◌∙◌, arith}
+use Rattle.std.proofs.Common.{◌≡◌, ℕ, ◌+◌, ◌<◌, ◌≤◌, ◌^◌, true, List, [], ◌∷◌, ◌++◌, length, Some, None, refl, sym, ap, ◌∙◌, arith}
 use Rattle.std.proofs.lemmas.List.{append-nil, length_push}
 use Rattle.snp_model.specs.declared.event.Deed.{Deed}
 use Rattle.snp_model.specs.declared.event.Deed.TheVariants as deeds
 use Rattle.snp_model.specs.declared.item.Line.{Line}
+use Rattle.snp_model.specs.declared.scenario.Role.{Role}
+use Rattle.snp_model.specs.declared.walk.GuestEnd.{GuestEnd}
+use Rattle.snp_model.specs.declared.event.Outcome.{Outcome}
+use Rattle.snp_model.specs.declared.event.Outcome.TheVariants as outcomes
+use Rattle.snp_model.specs.Step.{line_at, passed_over}
 use Rattle.snp_model.specs.Walking.{guest_words, nested_words_after, nested_words}
-use Rattle.snp_model.proofs.RoomLaws.{guest_words_append, nested_words_append}
-use Rattle.machine_core.specs.Actors.{guest_words_with, nested_words_with, IsActorState}
+use Rattle.snp_model.proofs.ShapeLaws.{guest_words_append, nested_words_append}
+use Rattle.machine_core.specs.Actors.{guest_words_with, nested_words_with, is_nested_read, IsActorState, IsBegun}
+use Rattle.snp_model.specs.Bounds.{IsGuestInside}
+use Rattle.machine_core.specs.Walks.{stands_of}
 
 guest_words_one : (words : List ℕ) (deed : Deed) → words ++ guest_words (deed ∷ []) ≡ guest_words_with deed words
 unfolding guest_words
@@ -37,9 +44,10 @@ nested_few (deeds.Table g i f v) words = omega arith
 nested_few deed words = omega arith
 
 -- one more deed
-pub actor_keeps : (script : List Line) (made : List Deed) (deed : Deed) (guest nested new_guest new_nested : List ℕ) → IsActorState script made guest nested
-    → new_guest ≡ guest_words_with deed guest → new_nested ≡ nested_words_with deed nested → IsActorState script (made ++ deed ∷ []) new_guest new_nested
-actor_keeps script made deed guest nested new_guest new_nested is guest_is nested_is =
+pub actor_keeps : (role : Role) (script : List Line) (item : ℕ) (made : List Deed) (deed : Deed) (guest nested new_guest new_nested : List ℕ) (stands new_stands : GuestEnd) → IsActorState role script item made guest nested stands
+    → new_guest ≡ guest_words_with deed guest → new_nested ≡ nested_words_with deed nested → new_stands ≡ stands_of role (line_at script item).item new_guest → IsGuestInside new_stands
+    → IsActorState role script item (made ++ deed ∷ []) new_guest new_nested new_stands
+actor_keeps role script item made deed guest nested new_guest new_nested stands new_stands is guest_is nested_is stands_is inside =
     let pushed = length_push made deed in
     let few = is.guest_few in
     let nested_are_few = is.nested_few in
@@ -53,9 +61,48 @@ actor_keeps script made deed guest nested new_guest new_nested is guest_is neste
       nested_are = nested_is ∙ ap (nested_words_with deed) is.nested_are ∙ sym (nested_words_push made deed);
       guest_few = omega arith;
       nested_few = omega arith;
+      stands_are = λ begun. stands_is;
+      inside = inside;
     }
 
 -- no deed
-pub actor_anew : (script : List Line) → length script < 2 ^ 32 → IsActorState script [] [] []
+pub actor_anew : (role : Role) (script : List Line) (item : ℕ) (made : List Deed) (guest nested : List ℕ) (stands : GuestEnd) → length script < 2 ^ 32 → IsGuestInside stands → made ≡ [] → guest ≡ [] → nested ≡ []
+    → IsActorState role script item made guest nested stands
 unfolding guest_words nested_words_after
-actor_anew script short = record { short = short; guest_are = refl; nested_are = refl; guest_few = omega arith; nested_few = omega arith }
+actor_anew role script item made guest nested stands short inside none no_guest no_nested =
+    let no_words : length guest ≡ 0 = ap length no_guest in
+    let no_nested_words : length nested ≡ 0 = ap length no_nested in
+    record {
+      short = short;
+      guest_are = no_guest ∙ sym (ap guest_words none);
+      nested_are = no_nested ∙ sym (ap nested_words none);
+      guest_few = omega arith;
+      nested_few = omega arith;
+      stands_are = λ begun. absurd (begun (ap length none));
+      inside = inside;
+    }
+
+-- a word of a nested table leaves the words of guest tables
+words_stay : (deed : Deed) (words : List ℕ) → is_nested_read deed ≡ true → guest_words_with deed words ≡ words
+words_stay (deeds.Nested f i v) words is = refl
+words_stay (deeds.Table g i f v) words is = cc
+words_stay deeds.Begin words is = cc
+words_stay (deeds.Access g i f p) words is = cc
+words_stay (deeds.Host f i) words is = cc
+words_stay (deeds.Lock f) words is = cc
+words_stay (deeds.LockContext g) words is = cc
+words_stay deeds.Compute words is = cc
+words_stay (deeds.Commit f g s) words is = cc
+words_stay (deeds.CommitContext g) words is = cc
+words_stay deeds.Control words is = cc
+
+-- and so the guest walk where it stands
+pub stands_stay : (role : Role) (script : List Line) (item : ℕ) (made : List Deed) (deed : Deed) (guest nested new_guest : List ℕ) (stands : GuestEnd) → IsActorState role script item made guest nested stands
+    → IsBegun made → is_nested_read deed ≡ true → new_guest ≡ guest_words_with deed guest → stands ≡ stands_of role (line_at script item).item new_guest
+stands_stay role script item made deed guest nested new_guest stands is begun nested_is guest_is =
+    is.stands_are begun ∙ ap (stands_of role (line_at script item).item) (sym (guest_is ∙ words_stay deed guest nested_is))
+
+-- an outcome but that of a skip passes over no item
+pub passes_none : (outcome : Outcome) → ((count : ℕ) → outcome ≡ outcomes.Skipped count → ⊥) → passed_over outcome ≡ 0
+passes_none (outcomes.Skipped count) other = absurd (other count refl)
+passes_none outcome other = refl

@@ -1,5 +1,5 @@
 -- What a written bay leaves of the flat memory.
-use Rattle.std.proofs.Common.{◌≡◌, ◌≢◌, ℕ, ◌/◌, ◌%◌, ◌<◌, ◌≤◌, Bool, true, false, cond, List, [], length, get_or, set, Option, Some, refl, sym, ap, ◌∙◌, subst, ⊎_elim, arith}
+use Rattle.std.proofs.Common.{◌≡◌, ◌≢◌, ℕ, ◌/◌, ◌%◌, ◌<◌, ◌≤◌, Bool, true, false, cond, List, [], length, get_or, set, Option, None, Some, refl, sym, ap, ◌∙◌, subst, ⊎_elim, arith}
 use Rattle.std.proofs.lemmas.Bool.{cases_eq, cases_lt}
 use Rattle.std.proofs.lemmas.Bool.Decides.{nat_tests}
 use Rattle.std.proofs.lemmas.List.{get_or-set_same, get_or-set_other, set_past, get_or_past}
@@ -20,9 +20,10 @@ use Rattle.snp_model.specs.Operations.{writes, outcome_of, word_after}
 use Rattle.snp_model.specs.Opening.{with_word_spec}
 use Rattle.snp_model.specs.RegionWords.{page_at, word_at, word_set}
 use Rattle.snp_model.specs.State.{Page, ActorPart, with_word, word_of}
-use Rattle.snp_model.specs.Step.{access_move, memory_move, quiet_move, table_word}
+use Rattle.snp_model.specs.Moves.{memory_move, quiet_move, table_word}
+use Rattle.snp_model.specs.Step.{access_move}
 use Rattle.machine_core.specs.declared.bay.Bay.{Bay}
-use Rattle.machine_core.specs.Bays.{Bays, contents_of, facts_of, page_in, pages_of, put, with_entry, words_of}
+use Rattle.machine_core.specs.Bays.{Bays, Stock, contents_of, facts_of, holder_in, holders_of, locks_of, page_in, pages_of, put, stock_with, view_on, with_entry, words_of}
 use Rattle.snp_model.specs.Verdicts.{private_verdict}
 use Rattle.machine_core.specs.Moves.{move_by, table_load}
 
@@ -52,6 +53,22 @@ page_there bays frame bay there = ap (λ (o : Option Bay). page_in o (frame % 51
 page_put : (bays : Bays) (frame : ℕ) (bay : Bay) → pages_of (put (frame / 512) bay bays) frame ≡ page_in (Some bay) (frame % 512)
 unfolding pages_of
 page_put bays frame bay = ap (λ (o : Option Bay). page_in o (frame % 512)) (put_at bays (frame / 512) bay (frame / 512) refl)
+
+-- a bay that is written without its locks leaves all locks
+holder_each : (bays : Bays) (region : ℕ) (old new : Bay) → bays region ≡ Some old → new.rmp.holders ≡ old.rmp.holders → (f : ℕ) → holders_of (put region new bays) f ≡ holders_of bays f
+unfolding holders_of
+holder_each bays region old new there same f =
+    ⊎_elim
+    (λ (here : f / 512 ≡ region).
+    ap (λ (o : Option Bay). holder_in o (f % 512)) (put_at bays region new (f / 512) here)
+    ∙ ap (λ (holders : List (Option ℕ)). get_or holders (f % 512) None) same
+    ∙ ap (λ (o : Option Bay). holder_in o (f % 512)) (sym there ∙ ap bays (sym here)))
+    (λ (apart : f / 512 ≢ region). ap (λ (o : Option Bay). holder_in o (f % 512)) (put_off bays region new (f / 512) apart))
+    (cases_eq (f / 512) region)
+
+pub locks_stay : (stock new_stock : Stock) (region : ℕ) (old new : Bay) → stock.bays region ≡ Some old → new.rmp.holders ≡ old.rmp.holders → new_stock ≡ stock_with region new stock → locks_of new_stock ≡ locks_of stock
+locks_stay stock new_stock region old new there same is =
+    ap locks_of is ∙ (λ i. record { holder = λ f. holder_each stock.bays region old new there same f i; context_holder = λ guest. None })
 
 -- a bay in which the page of one frame alone may have changed
 abbrev OtherSlotsStay : Bay → Bay → ℕ → Type 0
@@ -122,57 +139,66 @@ unfolding facts_of
 word_facts_each bays frame index value f = grind (arith, nat_tests)
 
 -- a bay with another memory was put
-pub record IsStored (bays new_bays : Bays) (frame index value : ℕ) (bay : Bay) (memory : List (List ℕ)) : Type 0 where
-  pub there : bays (frame / 512) ≡ Some bay
+pub record IsStored (stock new_stock : Stock) (frame index value : ℕ) (bay : Bay) (memory : List (List ℕ)) : Type 0 where
+  pub there : stock.bays (frame / 512) ≡ Some bay
   pub memory_is : memory ≡ word_set bay.memory (frame % 512) index value
-  pub bays_are : new_bays ≡ put (frame / 512) (with_memory bay memory) bays
+  pub stock_is : new_stock ≡ stock_with (frame / 512) (with_memory bay memory) stock
 
-stored_pages : (bays new_bays : Bays) (frame index value : ℕ) (bay : Bay) (memory : List (List ℕ)) → IsStored bays new_bays frame index value bay memory → pages_of new_bays ≡ with_word frame index value (pages_of bays)
-stored_pages bays new_bays frame index value bay memory stored =
-    ap pages_of stored.bays_are
-    ∙ ap (λ (m : List (List ℕ)). pages_of (put (frame / 512) (with_memory bay m) bays)) stored.memory_is
-    ∙ words_view bays frame index value bay stored.there
+stored_pages : (stock new_stock : Stock) (frame index value : ℕ) (bay : Bay) (memory : List (List ℕ)) → IsStored stock new_stock frame index value bay memory → pages_of new_stock.bays ≡ with_word frame index value (pages_of stock.bays)
+stored_pages stock new_stock frame index value bay memory stored =
+    ap (λ (s : Stock). pages_of s.bays) stored.stock_is
+    ∙ ap (λ (m : List (List ℕ)). pages_of (put (frame / 512) (with_memory bay m) stock.bays)) stored.memory_is
+    ∙ words_view stock.bays frame index value bay stored.there
 
-pub stored_words : (bays new_bays : Bays) (frame index value : ℕ) (bay : Bay) (memory : List (List ℕ)) → IsStored bays new_bays frame index value bay memory → words_of new_bays ≡ with_word_spec (record { frame = frame; index = index; value = value }) (words_of bays)
+pub stored_words : (stock new_stock : Stock) (frame index value : ℕ) (bay : Bay) (memory : List (List ℕ)) → IsStored stock new_stock frame index value bay memory → words_of new_stock.bays ≡ with_word_spec (record { frame = frame; index = index; value = value }) (words_of stock.bays)
 unfolding words_of
-stored_words bays new_bays frame index value bay memory stored =
-    (λ i f. (stored_pages bays new_bays frame index value bay memory stored i f).words) ∙ (λ i f. word_spec_each bays frame index value f i)
+stored_words stock new_stock frame index value bay memory stored =
+    (λ i f. (stored_pages stock new_stock frame index value bay memory stored i f).words) ∙ (λ i f. word_spec_each stock.bays frame index value f i)
 
-pub stored_facts : (bays new_bays : Bays) (frame index value : ℕ) (bay : Bay) (memory : List (List ℕ)) → IsStored bays new_bays frame index value bay memory → facts_of new_bays ≡ facts_of bays
+pub stored_facts : (stock new_stock : Stock) (frame index value : ℕ) (bay : Bay) (memory : List (List ℕ)) → IsStored stock new_stock frame index value bay memory → facts_of new_stock.bays ≡ facts_of stock.bays
 unfolding facts_of
-stored_facts bays new_bays frame index value bay memory stored =
-    (λ i f. (stored_pages bays new_bays frame index value bay memory stored i f).facts) ∙ (λ i f. word_facts_each bays frame index value f i)
+stored_facts stock new_stock frame index value bay memory stored =
+    (λ i f. (stored_pages stock new_stock frame index value bay memory stored i f).facts) ∙ (λ i f. word_facts_each stock.bays frame index value f i)
+
+pub stored_locks : (stock new_stock : Stock) (frame index value : ℕ) (bay : Bay) (memory : List (List ℕ)) → IsStored stock new_stock frame index value bay memory → locks_of new_stock ≡ locks_of stock
+stored_locks stock new_stock frame index value bay memory stored = locks_stay stock new_stock (frame / 512) bay (with_memory bay memory) stored.there refl stored.stock_is
+
+-- the facts of a frame are its entry's
+pub facts_there : (bays : Bays) (frame : ℕ) (bay : Bay) → bays (frame / 512) ≡ Some bay → facts_of bays frame ≡ facts_at bay.rmp (frame % 512)
+unfolding facts_of
+facts_there bays frame bay there = ap (λ (p : Page). p.facts) (page_there bays frame bay there)
 
 -- a bay with another entry was put
-pub record IsWritten (bays new_bays : Bays) (frame : ℕ) (entry : RmpEntry) (bay new : Bay) : Type 0 where
-  pub there : bays (frame / 512) ≡ Some bay
+pub record IsWritten (stock new_stock : Stock) (frame : ℕ) (entry : RmpEntry) (bay new : Bay) : Type 0 where
+  pub there : stock.bays (frame / 512) ≡ Some bay
   pub whole : length bay.rmp.facts ≡ 512
   pub memory_is : new.memory ≡ bay.memory
   pub facts_are : new.rmp.facts ≡ set bay.rmp.facts (frame % 512) entry
-  pub bays_are : new_bays ≡ put (frame / 512) new bays
+  pub locks_are : new.rmp.holders ≡ bay.rmp.holders
+  pub stock_is : new_stock ≡ stock_with (frame / 512) new stock
 
-entry_stays : (bays new_bays : Bays) (frame : ℕ) (entry : RmpEntry) (bay new : Bay) → IsWritten bays new_bays frame entry bay new → OtherSlotsStay bay new (frame % 512)
-entry_stays bays new_bays frame entry bay new written s other =
+entry_stays : (stock new_stock : Stock) (frame : ℕ) (entry : RmpEntry) (bay new : Bay) → IsWritten stock new_stock frame entry bay new → OtherSlotsStay bay new (frame % 512)
+entry_stays stock new_stock frame entry bay new written s other =
     λ i. record {
       facts = (ap (λ (fs : List RmpEntry). get_or fs s free_entry) written.facts_are ∙ get_or-set_other bay.rmp.facts (frame % 512) s entry free_entry other) i;
       words = page_at (written.memory_is i) s;
     }
 
-entry_page : (bays new_bays : Bays) (frame : ℕ) (entry : RmpEntry) (bay new : Bay) → IsWritten bays new_bays frame entry bay new → pages_of new_bays frame ≡ record { facts = entry; words = (pages_of bays frame).words }
-entry_page bays new_bays frame entry bay new written =
+entry_page : (stock new_stock : Stock) (frame : ℕ) (entry : RmpEntry) (bay new : Bay) → IsWritten stock new_stock frame entry bay new → pages_of new_stock.bays frame ≡ record { facts = entry; words = (pages_of stock.bays frame).words }
+entry_page stock new_stock frame entry bay new written =
     let within : frame % 512 < length bay.rmp.facts = omega (arith, written.whole) in
-    ap (λ (bs : Bays). pages_of bs frame) written.bays_are
-    ∙ page_put bays frame new
+    ap (λ (s : Stock). pages_of s.bays frame) written.stock_is
+    ∙ page_put stock.bays frame new
     ∙ (λ i. record {
       facts = (ap (λ (fs : List RmpEntry). get_or fs (frame % 512) free_entry) written.facts_are ∙ get_or-set_same bay.rmp.facts (frame % 512) entry free_entry within) i;
       words = page_at (written.memory_is i) (frame % 512);
     })
-    ∙ ap (λ (p : Page). let page : Page = record { facts = entry; words = p.words } in page) (sym (page_there bays frame bay written.there))
+    ∙ ap (λ (p : Page). let page : Page = record { facts = entry; words = p.words } in page) (sym (page_there stock.bays frame bay written.there))
 
-entry_off : (bays new_bays : Bays) (frame : ℕ) (entry : RmpEntry) (bay new : Bay) → IsWritten bays new_bays frame entry bay new → (f : ℕ) → f ≢ frame → pages_of new_bays f ≡ pages_of bays f
-entry_off bays new_bays frame entry bay new written f other =
-    ap (λ (bs : Bays). pages_of bs f) written.bays_are
-    ∙ page_off bays frame bay new written.there (entry_stays bays new_bays frame entry bay new written) f other
+entry_off : (stock new_stock : Stock) (frame : ℕ) (entry : RmpEntry) (bay new : Bay) → IsWritten stock new_stock frame entry bay new → (f : ℕ) → f ≢ frame → pages_of new_stock.bays f ≡ pages_of stock.bays f
+entry_off stock new_stock frame entry bay new written f other =
+    ap (λ (s : Stock). pages_of s.bays f) written.stock_is
+    ∙ page_off stock.bays frame bay new written.there (entry_stays stock new_stock frame entry bay new written) f other
 
 with_entry_at : (frame : ℕ) (entry : RmpEntry) (facts : ℕ → RmpEntry) (f : ℕ) → f ≡ frame → with_entry frame entry facts f ≡ entry
 with_entry_at frame entry facts f same = grind (arith, nat_tests)
@@ -180,35 +206,38 @@ with_entry_at frame entry facts f same = grind (arith, nat_tests)
 with_entry_off : (frame : ℕ) (entry : RmpEntry) (facts : ℕ → RmpEntry) (f : ℕ) → f ≢ frame → with_entry frame entry facts f ≡ facts f
 with_entry_off frame entry facts f other = grind (arith, nat_tests)
 
-written_fact : (bays new_bays : Bays) (frame : ℕ) (entry : RmpEntry) (bay new : Bay) → IsWritten bays new_bays frame entry bay new → (f : ℕ) → facts_of new_bays f ≡ with_entry frame entry (facts_of bays) f
+written_fact : (stock new_stock : Stock) (frame : ℕ) (entry : RmpEntry) (bay new : Bay) → IsWritten stock new_stock frame entry bay new → (f : ℕ) → facts_of new_stock.bays f ≡ with_entry frame entry (facts_of stock.bays) f
 unfolding facts_of
-written_fact bays new_bays frame entry bay new written f =
+written_fact stock new_stock frame entry bay new written f =
     ⊎_elim
     (λ (same : f ≡ frame).
-    ap (λ (n : ℕ). (pages_of new_bays n).facts) same
-    ∙ ap (λ (p : Page). p.facts) (entry_page bays new_bays frame entry bay new written)
-    ∙ sym (with_entry_at frame entry (λ (n : ℕ). (pages_of bays n).facts) f same))
+    ap (λ (n : ℕ). (pages_of new_stock.bays n).facts) same
+    ∙ ap (λ (p : Page). p.facts) (entry_page stock new_stock frame entry bay new written)
+    ∙ sym (with_entry_at frame entry (λ (n : ℕ). (pages_of stock.bays n).facts) f same))
     (λ (other : f ≢ frame).
-    ap (λ (p : Page). p.facts) (entry_off bays new_bays frame entry bay new written f other)
-    ∙ sym (with_entry_off frame entry (λ (n : ℕ). (pages_of bays n).facts) f other))
+    ap (λ (p : Page). p.facts) (entry_off stock new_stock frame entry bay new written f other)
+    ∙ sym (with_entry_off frame entry (λ (n : ℕ). (pages_of stock.bays n).facts) f other))
     (cases_eq f frame)
 
-written_word : (bays new_bays : Bays) (frame : ℕ) (entry : RmpEntry) (bay new : Bay) → IsWritten bays new_bays frame entry bay new → (f : ℕ) → words_of new_bays f ≡ words_of bays f
+written_word : (stock new_stock : Stock) (frame : ℕ) (entry : RmpEntry) (bay new : Bay) → IsWritten stock new_stock frame entry bay new → (f : ℕ) → words_of new_stock.bays f ≡ words_of stock.bays f
 unfolding words_of
-written_word bays new_bays frame entry bay new written f =
+written_word stock new_stock frame entry bay new written f =
     ⊎_elim
     (λ (same : f ≡ frame).
-    ap (λ (n : ℕ). (pages_of new_bays n).words) same
-    ∙ ap (λ (p : Page). p.words) (entry_page bays new_bays frame entry bay new written)
-    ∙ ap (λ (n : ℕ). (pages_of bays n).words) (sym same))
-    (λ (other : f ≢ frame). ap (λ (p : Page). p.words) (entry_off bays new_bays frame entry bay new written f other))
+    ap (λ (n : ℕ). (pages_of new_stock.bays n).words) same
+    ∙ ap (λ (p : Page). p.words) (entry_page stock new_stock frame entry bay new written)
+    ∙ ap (λ (n : ℕ). (pages_of stock.bays n).words) (sym same))
+    (λ (other : f ≢ frame). ap (λ (p : Page). p.words) (entry_off stock new_stock frame entry bay new written f other))
     (cases_eq f frame)
 
-pub written_facts : (bays new_bays : Bays) (frame : ℕ) (entry : RmpEntry) (bay new : Bay) → IsWritten bays new_bays frame entry bay new → facts_of new_bays ≡ with_entry frame entry (facts_of bays)
-written_facts bays new_bays frame entry bay new written = λ i f. written_fact bays new_bays frame entry bay new written f i
+pub written_facts : (stock new_stock : Stock) (frame : ℕ) (entry : RmpEntry) (bay new : Bay) → IsWritten stock new_stock frame entry bay new → facts_of new_stock.bays ≡ with_entry frame entry (facts_of stock.bays)
+written_facts stock new_stock frame entry bay new written = λ i f. written_fact stock new_stock frame entry bay new written f i
 
-pub written_words : (bays new_bays : Bays) (frame : ℕ) (entry : RmpEntry) (bay new : Bay) → IsWritten bays new_bays frame entry bay new → words_of new_bays ≡ words_of bays
-written_words bays new_bays frame entry bay new written = λ i f. written_word bays new_bays frame entry bay new written f i
+pub written_words : (stock new_stock : Stock) (frame : ℕ) (entry : RmpEntry) (bay new : Bay) → IsWritten stock new_stock frame entry bay new → words_of new_stock.bays ≡ words_of stock.bays
+written_words stock new_stock frame entry bay new written = λ i f. written_word stock new_stock frame entry bay new written f i
+
+pub written_locks : (stock new_stock : Stock) (frame : ℕ) (entry : RmpEntry) (bay new : Bay) → IsWritten stock new_stock frame entry bay new → locks_of new_stock ≡ locks_of stock
+written_locks stock new_stock frame entry bay new written = locks_stay stock new_stock (frame / 512) bay new written.there written.locks_are written.stock_is
 
 -- a word of a guest table
 pub table_load_there : (bays : Bays) (frame : ℕ) (at : Place) (bay : Bay) → bays (frame / 512) ≡ Some bay
@@ -227,37 +256,41 @@ after_view true bays frame index value bay there = sym (words_view bays frame in
 after_view false bays frame index value bay there = ap pages_of (sym (put_same bays (frame / 512) bay there))
 
 -- the move of an access with a verdict, over the bay of its frame
-access_view : (bays : Bays) (guests : List GuestSpec) (part : ActorPart) (deed : Deed) (frame index : ℕ) (bay : Bay) (op : Op) (verdict : Verdict) → bays (frame / 512) ≡ Some bay
-    → access_move (contents_of bays guests) part deed verdict op frame index
-    ≡ move_by (record { deed = deed; outcome = Some (answer_by verdict op (word_at bay.memory (frame % 512) index)) }) (contents_of (put (frame / 512) (with_memory bay (memory_by verdict op bay.memory (frame % 512) index)) bays) guests) part
+access_view : (stock : Stock) (guests : List GuestSpec) (part : ActorPart) (deed : Deed) (frame index : ℕ) (bay : Bay) (op : Op) (verdict : Verdict) → stock.bays (frame / 512) ≡ Some bay
+    → access_move (contents_of stock guests) part deed verdict op frame index
+    ≡ move_by (record { deed = deed; outcome = Some (answer_by verdict op (word_at bay.memory (frame % 512) index)) }) (view_on (stock_with (frame / 512) (with_memory bay (memory_by verdict op bay.memory (frame % 512) index)) stock) guests) part.standing
 unfolding access_move
-access_view bays guests part deed frame index bay op Pass there =
-    let word_is : word_of (pages_of bays frame) index ≡ word_at bay.memory (frame % 512) index = ap (λ (p : Page). word_of p index) (page_there bays frame bay there) in
-    let pages = λ (word : ℕ). cond (writes op) (with_word frame index (word_after op word) (pages_of bays)) (pages_of bays) in
-    ap (λ (word : ℕ). memory_move (contents_of bays guests) part deed (Some (outcome_of op word)) (pages word)) word_is
-    ∙ ap (memory_move (contents_of bays guests) part deed (Some (outcome_of op (word_at bay.memory (frame % 512) index)))) (after_view (writes op) bays frame index (word_after op (word_at bay.memory (frame % 512) index)) bay there)
-access_view bays guests part deed frame index bay op Hidden there =
-    ap (λ (bs : Bays). quiet_move (contents_of bs guests) part deed (Some outcomes.Opaque)) (sym (put_same bays (frame / 512) bay there))
-access_view bays guests part deed frame index bay op (Fault outcome) there =
-    ap (λ (bs : Bays). quiet_move (contents_of bs guests) part deed (Some outcome)) (sym (put_same bays (frame / 512) bay there))
+access_view stock guests part deed frame index bay op Pass there =
+    let word_is : word_of (pages_of stock.bays frame) index ≡ word_at bay.memory (frame % 512) index = ap (λ (p : Page). word_of p index) (page_there stock.bays frame bay there) in
+    let pages = λ (word : ℕ). cond (writes op) (with_word frame index (word_after op word) (pages_of stock.bays)) (pages_of stock.bays) in
+    ap (λ (word : ℕ). memory_move (contents_of stock guests) part deed (Some (outcome_of op word)) (pages word)) word_is
+    ∙ ap (memory_move (contents_of stock guests) part deed (Some (outcome_of op (word_at bay.memory (frame % 512) index)))) (after_view (writes op) stock.bays frame index (word_after op (word_at bay.memory (frame % 512) index)) bay there)
+access_view stock guests part deed frame index bay op Hidden there =
+    ap (λ (bs : Bays). quiet_move (contents_of (record { bays = bs }) guests) part deed (Some outcomes.Opaque)) (sym (put_same stock.bays (frame / 512) bay there))
+access_view stock guests part deed frame index bay op (Fault outcome) there =
+    ap (λ (bs : Bays). quiet_move (contents_of (record { bays = bs }) guests) part deed (Some outcome)) (sym (put_same stock.bays (frame / 512) bay there))
 
 -- a checked access to a word of the bay of a frame was made, and the bay was put back
-pub record IsAccessed (bays new_bays : Bays) (frame slot index : ℕ) (bay : Bay) (memory : List (List ℕ)) (op : Op) (verdict : RmpEntry → Verdict) (outcome : Outcome) : Type 0 where
-  pub there : bays (frame / 512) ≡ Some bay
+pub record IsAccessed (stock new_stock : Stock) (frame slot index : ℕ) (bay : Bay) (memory : List (List ℕ)) (op : Op) (verdict : RmpEntry → Verdict) (outcome : Outcome) : Type 0 where
+  pub there : stock.bays (frame / 512) ≡ Some bay
   pub slot_is : slot ≡ frame % 512
   pub outcome_is : outcome ≡ answer_by (verdict (facts_at bay.rmp slot)) op (word_at bay.memory slot index)
   pub memory_is : memory ≡ memory_by (verdict (facts_at bay.rmp slot)) op bay.memory slot index
-  pub bays_are : new_bays ≡ put (frame / 512) (with_memory bay memory) bays
+  pub stock_is : new_stock ≡ stock_with (frame / 512) (with_memory bay memory) stock
 
-pub accessed : (bays new_bays : Bays) (frame slot index : ℕ) (bay : Bay) (memory : List (List ℕ)) (op : Op) (verdict : RmpEntry → Verdict) (outcome : Outcome) → IsAccessed bays new_bays frame slot index bay memory op verdict outcome
+pub accessed : (stock new_stock : Stock) (frame slot index : ℕ) (bay : Bay) (memory : List (List ℕ)) (op : Op) (verdict : RmpEntry → Verdict) (outcome : Outcome) → IsAccessed stock new_stock frame slot index bay memory op verdict outcome
     → (guests : List GuestSpec) (part : ActorPart) (deed : Deed)
-    → access_move (contents_of bays guests) part deed (verdict (pages_of bays frame).facts) op frame index ≡ move_by (record { deed = deed; outcome = Some outcome }) (contents_of new_bays guests) part
-accessed bays new_bays frame slot index bay memory op verdict outcome made guests part deed =
+    → access_move (contents_of stock guests) part deed (verdict (pages_of stock.bays frame).facts) op frame index ≡ move_by (record { deed = deed; outcome = Some outcome }) (view_on new_stock guests) part.standing
+accessed stock new_stock frame slot index bay memory op verdict outcome made guests part deed =
     let outcome_at = λ (s : ℕ). answer_by (verdict (facts_at bay.rmp s)) op (word_at bay.memory s index) in
     let memory_at = λ (s : ℕ). memory_by (verdict (facts_at bay.rmp s)) op bay.memory s index in
-    ap (λ (p : Page). access_move (contents_of bays guests) part deed (verdict p.facts) op frame index) (page_there bays frame bay made.there)
-    ∙ access_view bays guests part deed frame index bay op (verdict (facts_at bay.rmp (frame % 512))) made.there
-    ∙ ap (λ (s : ℕ). move_by (record { deed = deed; outcome = Some (outcome_at s) }) (contents_of (put (frame / 512) (with_memory bay (memory_at s)) bays) guests) part) (sym made.slot_is)
-    ∙ ap (λ (o : Outcome). move_by (record { deed = deed; outcome = Some o }) (contents_of (put (frame / 512) (with_memory bay (memory_at slot)) bays) guests) part) (sym made.outcome_is)
-    ∙ ap (λ (m : List (List ℕ)). move_by (record { deed = deed; outcome = Some outcome }) (contents_of (put (frame / 512) (with_memory bay m) bays) guests) part) (sym made.memory_is)
-    ∙ ap (λ (bs : Bays). move_by (record { deed = deed; outcome = Some outcome }) (contents_of bs guests) part) (sym made.bays_are)
+    let leaves = λ (o : Outcome) (m : List (List ℕ)). move_by (record { deed = deed; outcome = Some o }) (view_on (stock_with (frame / 512) (with_memory bay m) stock) guests) part.standing in
+    ap (λ (p : Page). access_move (contents_of stock guests) part deed (verdict p.facts) op frame index) (page_there stock.bays frame bay made.there)
+    ∙ access_view stock guests part deed frame index bay op (verdict (facts_at bay.rmp (frame % 512))) made.there
+    ∙ ap (λ (s : ℕ). leaves (outcome_at s) (memory_at s)) (sym made.slot_is)
+    ∙ ap (λ (o : Outcome). leaves o (memory_at slot)) (sym made.outcome_is)
+    ∙ ap (leaves outcome) (sym made.memory_is)
+    ∙ ap (λ (s : Stock). move_by (record { deed = deed; outcome = Some outcome }) (view_on s guests) part.standing) (sym made.stock_is)
+
+pub accessed_locks : (stock new_stock : Stock) (frame slot index : ℕ) (bay : Bay) (memory : List (List ℕ)) (op : Op) (verdict : RmpEntry → Verdict) (outcome : Outcome) → IsAccessed stock new_stock frame slot index bay memory op verdict outcome → locks_of new_stock ≡ locks_of stock
+accessed_locks stock new_stock frame slot index bay memory op verdict outcome made = locks_stay stock new_stock (frame / 512) bay (with_memory bay memory) made.there refl made.stock_is

@@ -1,9 +1,14 @@
--- What an actor keeps of its open attempt beside its deeds: the words that its walks have read.
-use Rattle.std.specs.Prelude.{◌≡◌, ℕ, ◌<◌, ◌≤◌, ◌^◌, List, [], ◌∷◌, ◌++◌, length, Some}
+-- What an actor keeps of its open attempt beside its deeds: the words that its walks have read, and where its guest walk stands.
+use Rattle.std.specs.Prelude.{◌≡◌, ℕ, ◌<◌, ◌≤◌, ◌^◌, Bool, true, false, List, [], ◌∷◌, ◌++◌, length, Some}
 use Rattle.snp_model.specs.declared.event.Deed.{Deed}
 use Rattle.snp_model.specs.declared.event.Deed.TheVariants.{Nested, Table}
 use Rattle.snp_model.specs.declared.item.Line.{Line}
+use Rattle.snp_model.specs.declared.scenario.Role.{Role}
+use Rattle.snp_model.specs.declared.walk.GuestEnd.{GuestEnd}
+use Rattle.snp_model.specs.Step.{line_at}
 use Rattle.snp_model.specs.Walking.{guest_words, nested_words}
+use Rattle.snp_model.specs.Bounds.{IsGuestInside}
+use Rattle.machine_core.specs.Walks.{stands_of}
 
 -- the words of guest tables after one more deed
 abbrev pub guest_words_with : Deed → List ℕ → List ℕ
@@ -16,10 +21,21 @@ nested_words_with (Nested frame index value) words = words ++ value ∷ []
 nested_words_with (Table gpn index frame value) words = []
 nested_words_with deed words = words
 
--- the script isn't long, and the words are those of the deeds
-pub record IsActorState (script : List Line) (made : List Deed) (guest nested : List ℕ) : Type 0 where
+-- whether a deed reads a word of a nested table, which leaves the guest walk where it stands
+abbrev pub is_nested_read : Deed → Bool
+is_nested_read (Nested frame index value) = true
+is_nested_read deed = false
+
+-- an attempt is open
+abbrev pub IsBegun : List Deed → Type 0
+IsBegun made = length made ≡ 0 → ⊥
+
+-- the script isn't long, the words are those of the deeds, and once an attempt is open its guest walk stands where they lead
+pub record IsActorState (role : Role) (script : List Line) (item : ℕ) (made : List Deed) (guest nested : List ℕ) (stands : GuestEnd) : Type 0 where
   pub short : length script < 2 ^ 32
   pub guest_are : guest ≡ guest_words made
   pub nested_are : nested ≡ nested_words made
   pub guest_few : length guest ≤ length made
   pub nested_few : length nested ≤ length made
+  pub stands_are : IsBegun made → stands ≡ stands_of role (line_at script item).item guest
+  pub inside : IsGuestInside stands

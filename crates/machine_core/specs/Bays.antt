@@ -1,12 +1,12 @@
--- What the machine keeps of memory: bays by region, and the flat memory that they stand for (this project's own).
-use Rattle.std.specs.Prelude.{◌≡◌, ℕ, ◌/◌, ◌%◌, ◌==◌, true, if◌then◌else◌, List, replicate, slice_get, Option, Some, None, IsSome}
+-- What the machine keeps of memory: bays by region, which are lent to events, and what an event sees over them (this project's own).
+use Rattle.std.specs.Prelude.{◌≡◌, ℕ, ◌/◌, ◌%◌, ◌==◌, true, if◌then◌else◌, List, replicate, slice_get, slice_index_or, Option, Some, None, IsSome}
 use Rattle.snp_model.specs.declared.entry.RmpEntry.{RmpEntry}
 use Rattle.snp_model.specs.declared.scenario.GuestSpec.{GuestSpec}
 use Rattle.snp_model.specs.Entries.{facts_at}
 use Rattle.snp_model.specs.Facts.{free_entry}
 use Rattle.snp_model.specs.Opening.{opening_contexts}
 use Rattle.snp_model.specs.RegionWords.{page_at}
-use Rattle.snp_model.specs.State.{Page, Pages, Contents, ActorPart, zero_words}
+use Rattle.snp_model.specs.State.{Page, Pages, Contents, ActorPart, View, zero_words}
 use Rattle.snp_model.specs.Touches.{Touched, region_of, touches, touches_frame}
 use Rattle.machine_core.specs.declared.bay.Bay.{Bay}
 
@@ -14,11 +14,11 @@ use Rattle.machine_core.specs.declared.bay.Bay.{Bay}
 abbrev pub Bays : Type 0
 Bays = ℕ → Option Bay
 
--- a region at first: its frames are free, and its words zero
+-- a region at first: its frames are free and unlocked, and its words zero
 abbrev pub free_bay : Bay
 free_bay = record { memory = replicate 512 (replicate 512 0); rmp = record { facts = replicate 512 free_entry; holders = replicate 512 None } }
 
--- the frame of a slot of a region; those of an absent region are free and zero
+-- the page of a slot of a region; those of an absent region are free and zero
 abbrev pub page_in : Option Bay → ℕ → Page
 page_in None slot = record { facts = free_entry; words = zero_words }
 page_in (Some bay) slot = record { facts = facts_at bay.rmp slot; words = page_at bay.memory slot }
@@ -26,6 +26,15 @@ page_in (Some bay) slot = record { facts = facts_at bay.rmp slot; words = page_a
 -- memory by frame: regions have 512 frames
 unfoldable pub pages_of : Bays → Pages
 pages_of bays f = page_in (bays (f / 512)) (f % 512)
+
+-- the holder of the lock of a slot of a region
+abbrev pub holder_in : Option Bay → ℕ → Option ℕ
+holder_in None slot = None
+holder_in (Some bay) slot = slice_index_or bay.rmp.holders slot None
+
+-- the holders of locks by frame
+unfoldable pub holders_of : Bays → ℕ → Option ℕ
+holders_of bays f = holder_in (bays (f / 512)) (f % 512)
 
 -- the bays of a list, whose regions are numbered from 0
 abbrev pub own_bays : List Bay → Bays
@@ -35,9 +44,38 @@ own_bays bays region = slice_get bays region
 abbrev pub put : ℕ → Bay → Bays → Bays
 put region bay bays r = if region == r then Some bay else bays r
 
--- memory with the guests' contexts, which no event changes yet
-abbrev pub contents_of : Bays → List GuestSpec → Contents
-contents_of bays guests = record { pages = pages_of bays; contexts = opening_contexts guests }
+-- all that parts can lend: the bays of regions
+pub record Stock : Type 0 where
+  pub bays : Bays
+
+-- a stock with this one as the bay of a region
+abbrev pub stock_with : ℕ → Bay → Stock → Stock
+stock_with region bay stock = record stock { bays = put region bay stock.bays }
+
+-- that of a list of bays
+abbrev pub own_stock : List Bay → Stock
+own_stock bays = record { bays = own_bays bays }
+
+-- memory with the guests' contexts, which are those of the opening, since no event changes them yet
+abbrev pub contents_of : Stock → List GuestSpec → Contents
+contents_of stock guests = record { pages = pages_of stock.bays; contexts = opening_contexts guests }
+
+-- locks, by their holders
+pub record Locks : Type 0 where
+  pub holder : ℕ → Option ℕ
+  pub context_holder : ℕ → Option ℕ
+
+-- no lock at all
+abbrev pub no_locks : Locks
+no_locks = record { holder = λ _. None; context_holder = λ _. None }
+
+-- the locks of a stock; no event locks a context yet
+abbrev pub locks_of : Stock → Locks
+locks_of stock = record { holder = holders_of stock.bays; context_holder = λ _. None }
+
+-- what an event sees over a stock, with these declared guests
+abbrev pub view_on : Stock → List GuestSpec → View
+view_on stock guests = record { contents = contents_of stock guests; holder = (locks_of stock).holder; context_holder = (locks_of stock).context_holder }
 
 -- entries by frame
 unfoldable pub facts_of : Bays → ℕ → RmpEntry
@@ -51,10 +89,14 @@ words_of bays f = (pages_of bays f).words
 abbrev pub with_entry : ℕ → RmpEntry → (ℕ → RmpEntry) → ℕ → RmpEntry
 with_entry frame entry facts f = if frame == f then entry else facts f
 
--- the regions that are touched are there
-abbrev pub HasTouched : Touched → Bays → Type 0
-HasTouched touched bays = (frame : ℕ) → touches_frame touched frame ≡ true → IsSome (bays (region_of frame))
+-- the bay of a frame is there
+abbrev pub HasFrame : Stock → ℕ → Type 0
+HasFrame stock frame = IsSome (stock.bays (frame / 512))
 
--- the regions that an actor's next event touches are there
-abbrev pub HasAll : ℕ → ActorPart → Bays → Type 0
-HasAll frames part bays = HasTouched (touches frames part) bays
+-- all that is touched is there
+abbrev pub HasTouched : Touched → Stock → Type 0
+HasTouched touched stock = (frame : ℕ) → touches_frame touched frame ≡ true → IsSome (stock.bays (region_of frame))
+
+-- all that an actor's next event touches is there
+abbrev pub HasAll : ℕ → List GuestSpec → ActorPart → Stock → Type 0
+HasAll frames guests part stock = HasTouched (touches frames guests part) stock

@@ -5,7 +5,8 @@ use Rattle.std.specs.Vec.{with_item}
 use Rattle.std.specs.Prelude.{slice_get}
 use Rattle.std.proofs.Math.ListN.{length-set}
 use Rattle.std.proofs.lemmas.Bool.Decides.{nat_tests}
-use Rattle.machine_core.specs.Bays.{own_bays, put}
+use Rattle.snp_model.specs.Touches.{Touched, region_of}
+use Rattle.machine_core.specs.Bays.{HasTouched, own_stock, put, stock_with}
 use Rattle.machine_core.specs.declared.bay.Bay.{Bay}
 use Rattle.machine_core.specs.declared.parts.OwnParts.{OwnParts}
 
@@ -29,9 +30,9 @@ within_some [] region within = absurd (omega arith)
 within_some (bay ∷ bays) zero within = refl
 within_some (bay ∷ bays) (suc region) within = within_some bays region (omega arith)
 
--- a written bay is that of its region
-pub bays_put : (parts : OwnParts) (region : ℕ) (bay : Bay) → IsSome (own_bays parts.bays.items region) → own_bays (with_own parts region bay).bays.items ≡ put region bay (own_bays parts.bays.items)
-bays_put parts region bay some = λ i r. slice_get_set parts.bays.items region bay r (some_within parts.bays.items region some) i
+-- a written bay is that of its region, and all else stays
+pub bay_put : (parts : OwnParts) (region : ℕ) (bay : Bay) → IsSome ((own_stock parts.bays.items).bays region) → own_stock (with_own parts region bay).bays.items ≡ stock_with region bay (own_stock parts.bays.items)
+bay_put parts region bay some = λ i. record { bays = λ r. slice_get_set parts.bays.items region bay r (some_within parts.bays.items region some) i }
 
 -- lengths stay
 pub lengths_same : (parts : OwnParts) → length parts.bays.items ≡ length parts.bays.items
@@ -40,8 +41,10 @@ lengths_same parts = refl
 pub lengths_twice : (first second third : OwnParts) → length second.bays.items ≡ length first.bays.items → length third.bays.items ≡ length second.bays.items → length third.bays.items ≡ length first.bays.items
 lengths_twice first second third h k = k ∙ h
 
-pub lengths_has : (first second : OwnParts) → length second.bays.items ≡ length first.bays.items → (region : ℕ) → IsSome (own_bays first.bays.items region) → IsSome (own_bays second.bays.items region)
-lengths_has first second same region some = let within = some_within first.bays.items region some in within_some second.bays.items region (omega arith)
+pub lengths_has : (first second : OwnParts) → length second.bays.items ≡ length first.bays.items → (touched : Touched) → HasTouched touched (own_stock first.bays.items) → HasTouched touched (own_stock second.bays.items)
+lengths_has first second same touched has frame is_touched =
+    let within = some_within first.bays.items (region_of frame) (has frame is_touched) in
+    within_some second.bays.items (region_of frame) (omega arith)
 
-pub lengths_put : (parts : OwnParts) (region : ℕ) (bay : Bay) → IsSome (own_bays parts.bays.items region) → length (with_own parts region bay).bays.items ≡ length parts.bays.items
+pub lengths_put : (parts : OwnParts) (region : ℕ) (bay : Bay) → IsSome ((own_stock parts.bays.items).bays region) → length (with_own parts region bay).bays.items ≡ length parts.bays.items
 lengths_put parts region bay some = length-set parts.bays.items region bay

@@ -2,14 +2,18 @@ ghost use Rattle.std.specs.Prelude.{◌≡◌, ◌++◌, ◌∷◌, [], ◌+◌,
 ghost use Rattle.snp_model.specs.Opening.{opening_part};
 ghost use Rattle.snp_model.specs.Step.{line_at, passed_over, tries_again, last_after, part_after};
 ghost use Rattle.snp_model.specs.declared.event.Event.{Event};
-ghost use Rattle.snp_model.specs.State.{Contents};
+ghost use Rattle.snp_model.specs.State.{View};
 ghost use Rattle.snp_model.specs.Walking.{guest_words, nested_words};
+ghost use Rattle.snp_model.specs.Bounds.{IsGuestInside};
+ghost use Rattle.machine_core.specs.Actors.{IsBegun, is_nested_read};
 ghost use Rattle.machine_core.specs.Moves.{move_by};
+ghost use Rattle.machine_core.specs.Walks.{IsPagingRole, stands_of};
 
 use crate::shown::Shown;
-use crate::words::Words;
+use crate::walk_words::WalkWords;
+use crate::walking::{item_stands, no_walk};
 use arrayvec::ArrayVec;
-use snp_model::{Actor, Deed, Event, Line, Listed, Outcome, Role};
+use snp_model::{Actor, Deed, Event, GuestEnd, Line, Listed, Outcome, OutcomeClass, Role};
 use std::alloc::{AllocError, Global};
 use std::marker::Model;
 
@@ -21,25 +25,25 @@ pub struct ActorState {
     item: usize,
     attempt: u32,
     deeds: ArrayVec<Deed, 32>,
-    words: Words,
+    words: WalkWords,
+    // Where the guest walk of the open attempt stands; before it opens, anywhere.
+    stands: GuestEnd,
     last: Option<Outcome>,
 }
 
 impl Model for ActorState {
-    ghost use Rattle.std.specs.Prelude.{[], None, ◌<◌, ◌≤◌, ◌^◌, length};
-    ghost use Rattle.snp_model.specs.State.{ActorPart};
+    ghost use Rattle.snp_model.specs.State.{ActorPart, nothing_taken};
     ghost use Rattle.machine_core.specs.Actors.{IsActorState};
 
     ghost Value = { ActorPart };
 
-    ghost view = { λ a. record { role = a.role; script = a.script; item = a.item; attempt = a.attempt; deeds = a.deeds.items; locks = []; context_lock = None; computed = None; last = a.last } };
+    ghost view = { λ a. record { role = a.role; script = a.script; item = a.item; attempt = a.attempt; deeds = a.deeds.items; standing = nothing_taken; last = a.last } };
 
-    ghost invariant = { λ a. IsActorState a.script a.deeds.items a.words.guest.items a.words.nested.items };
+    ghost invariant = { λ a. IsActorState a.role a.script a.item a.deeds.items a.words.guest.items a.words.nested.items a.stands };
 }
 
 impl ActorState {
     /// An actor before its first item.
-    #[tactic(auto, using(crate::proofs::ActorLaws::actor_anew))]
     pub fn new(alloc: Global, actor: &Actor) -> Result<ActorState, AllocError>
         requires { length actor.now.script < 2 ^ 32 }
         ensures { IfOk result (λ part. part ≡ opening_part actor.now) }
@@ -50,7 +54,8 @@ impl ActorState {
             item: 0,
             attempt: 0,
             deeds: ArrayVec::new(),
-            words: Words::new(),
+            words: WalkWords::new(),
+            stands: no_walk(),
             last: None,
         })
     }
@@ -83,6 +88,14 @@ impl ActorState {
         self.words.nested.as_slice()
     }
 
+    /// Where the guest walk of the open attempt stands.
+    pub fn guest_stands(&self) -> GuestEnd
+        ensures stands { IsBegun self.now.deeds → result ≡ stands_of self.now.role (line_at self.now.script self.now.item).item (guest_words self.now.deeds) }
+        ensures inside { IsGuestInside result }
+    {
+        self.stands
+    }
+
     /// The last outcome that isn't of a skip.
     pub fn last(&self) -> Option<Outcome>
         ensures { result ≡ self.now.last }
@@ -102,27 +115,33 @@ impl ActorState {
         requires { self.now.item < length self.now.script }
         ensures { result ≡ line_at self.now.script self.now.item }
     {
-        let script = self.script.as_slice();
-        script[self.item]
+        *line_at(&self.script, self.item)
     }
 
     // One more deed of the open attempt.
-    #[tactic(auto, using(crate::proofs::ActorLaws::actor_keeps))]
     fn keep(&mut self, deed: Deed)
-        requires { length self.old.deeds < 32 }
+        requires role { IsPagingRole self.old.role }
+        requires unfinished { self.old.item < length self.old.script }
+        requires room { length self.old.deeds < 32 }
         ensures { self.new ≡ record self.old { deeds = self.old.deeds ++ deed ∷ [] } }
     {
+        let stays = !self.deeds.is_empty() && is_nested_read(&deed);
         self.words.read(&deed);
         self.deeds.push(deed);
+        if !stays {
+            let line = line_at(&self.script, self.item);
+            self.stands = item_stands(&self.role, &line.item, self.words.guest.as_slice());
+        }
     }
 
     /// Takes down what an event shows, and gives the event.
-    #[tactic(auto, using(crate::proofs::ActorLaws::actor_anew), unfolding(snp_model::specs::Step::part_after, snp_model::specs::Step::position_after))]
-    pub fn take_down(&mut self, shown: Shown) -> Event
+    #[tactic(auto, unfolding(snp_model::specs::Step::part_after, snp_model::specs::Step::position_after))]
+    pub fn take_down(&mut self, shown: &Shown) -> Event
+        requires role { IsPagingRole self.old.role }
         requires unfinished { self.old.item < length self.old.script }
-        requires room { IsNone shown.outcome → length self.old.deeds < 32 }
-        ensures event { result ≡ record { item = self.old.item; attempt = self.old.attempt; deed = shown.deed; outcome = shown.outcome } }
-        ensures part { (contents : Contents) → self.new ≡ part_after self.old (move_by shown contents self.old) shown.outcome }
+        requires room { IsNone shown.now.outcome → length self.old.deeds < 32 }
+        ensures event { result ≡ record { item = self.old.item; attempt = self.old.attempt; deed = shown.now.deed; outcome = shown.now.outcome } }
+        ensures part { (after : View) → self.new ≡ part_after self.old (move_by shown.now after self.old.standing) shown.now.outcome }
     {
         let event = Event {
             item: self.item as u32,
@@ -149,55 +168,48 @@ impl ActorState {
     }
 }
 
+// The line at a place of a script.
+fn line_at(script: &Listed<Line>, item: usize) -> &Line
+    requires { item < length script.now }
+    ensures { result.now ≡ line_at script.now item }
+{
+    &script.as_slice()[item]
+}
+
+// Whether a deed reads a word of a nested table, which leaves the guest walk where it stands.
+fn is_nested_read(deed: &Deed) -> bool
+    ensures { result ≡ is_nested_read deed.now }
+{
+    match deed {
+        Deed::Nested { .. } => true,
+        Deed::Begin
+        | Deed::Table { .. }
+        | Deed::Access { .. }
+        | Deed::Host { .. }
+        | Deed::Lock { .. }
+        | Deed::LockContext { .. }
+        | Deed::Compute
+        | Deed::Commit { .. }
+        | Deed::CommitContext { .. }
+        | Deed::Control => false,
+    }
+}
+
 // Whether an item is attempted again after an outcome.
 fn tries_again(line: &Line, attempt: u32, outcome: &Outcome) -> bool
     ensures { result ≡ tries_again line.now attempt outcome.now }
 {
-    match outcome {
-        Outcome::StatusInUse { .. } | Outcome::FirmwareInUse { .. } => attempt
-            < u32::from(line.retries),
-        Outcome::Loaded(_)
-        | Outcome::Opaque
-        | Outcome::Stored
-        | Outcome::Swapped(_)
-        | Outcome::Compared { .. }
-        | Outcome::Gp
-        | Outcome::Pf(_)
-        | Outcome::Npf(_)
-        | Outcome::Vc(_)
-        | Outcome::Offline
-        | Outcome::Status(_)
-        | Outcome::Carry(_)
-        | Outcome::Firmware(_)
-        | Outcome::BadTag { .. }
-        | Outcome::Next
-        | Outcome::Skipped(_) => false,
-    }
+    outcome.is_in_use() && attempt < u32::from(line.retries)
 }
 
 // How many items are passed over after an outcome.
+#[tactic(auto, using(crate::proofs::ActorLaws::passes_none))]
 fn passed_over(outcome: &Outcome) -> u32
     ensures { result ≡ passed_over outcome.now }
 {
     match outcome {
         Outcome::Skipped(count) => *count,
-        Outcome::Loaded(_)
-        | Outcome::Opaque
-        | Outcome::Stored
-        | Outcome::Swapped(_)
-        | Outcome::Compared { .. }
-        | Outcome::Gp
-        | Outcome::Pf(_)
-        | Outcome::Npf(_)
-        | Outcome::Vc(_)
-        | Outcome::Offline
-        | Outcome::Status(_)
-        | Outcome::Carry(_)
-        | Outcome::StatusInUse { .. }
-        | Outcome::Firmware(_)
-        | Outcome::FirmwareInUse { .. }
-        | Outcome::BadTag { .. }
-        | Outcome::Next => 0,
+        _ => 0,
     }
 }
 
@@ -205,23 +217,10 @@ fn passed_over(outcome: &Outcome) -> u32
 fn last_after(last: Option<Outcome>, outcome: Outcome) -> Option<Outcome>
     ensures { result ≡ last_after last outcome }
 {
-    match outcome {
-        Outcome::Next | Outcome::Skipped(_) => last,
-        Outcome::Loaded(_)
-        | Outcome::Opaque
-        | Outcome::Stored
-        | Outcome::Swapped(_)
-        | Outcome::Compared { .. }
-        | Outcome::Gp
-        | Outcome::Pf(_)
-        | Outcome::Npf(_)
-        | Outcome::Vc(_)
-        | Outcome::Offline
-        | Outcome::Status(_)
-        | Outcome::Carry(_)
-        | Outcome::StatusInUse { .. }
-        | Outcome::Firmware(_)
-        | Outcome::FirmwareInUse { .. }
-        | Outcome::BadTag { .. } => Some(outcome),
+    match outcome.class() {
+        OutcomeClass::Good => Some(outcome),
+        OutcomeClass::Bad => Some(outcome),
+        OutcomeClass::InUse => Some(outcome),
+        OutcomeClass::Skip => last,
     }
 }

@@ -1,10 +1,11 @@
-ghost use Rattle.std.specs.Prelude.{◌≡◌, ◌*◌, ◌^◌, ◌<◌, length, map, replicate, IfOk};
+ghost use Rattle.std.specs.Prelude.{◌≡◌, ℕ, ◌*◌, ◌^◌, ◌<◌, length, map, replicate, IfOk};
 ghost use Rattle.std.specs.List.{AllByRecursion};
+ghost use Rattle.snp_model.specs.declared.entry.PageSize.TheVariants.{Small};
 ghost use Rattle.snp_model.specs.Facts.{free_entry};
 ghost use Rattle.snp_model.specs.Opening.{opening_part, page_facts, facts_from, words_from};
 ghost use Rattle.snp_model.specs.Sound.{IsPage, IsWord};
 ghost use Rattle.snp_model.specs.State.{zero_words};
-ghost use Rattle.machine_core.specs.Bays.{facts_of, free_bay, own_bays, words_of};
+ghost use Rattle.machine_core.specs.Bays.{facts_of, free_bay, locks_of, no_locks, own_bays, own_stock, words_of};
 
 use crate::actor::ActorState;
 use crate::bay::Bay;
@@ -49,6 +50,7 @@ fn free_bays(alloc: Global, regions: u32) -> Result<Vec<Bay>, AllocError>
 pub fn free_parts(alloc: Global, regions: u32) -> Result<OwnParts, AllocError>
     ensures facts { IfOk result (λ parts. facts_of (own_bays parts.bays.items) ≡ (λ f. free_entry)) }
     ensures words { IfOk result (λ parts. words_of (own_bays parts.bays.items) ≡ (λ f. zero_words)) }
+    ensures locks { IfOk result (λ parts. locks_of (own_stock parts.bays.items) ≡ no_locks) }
     ensures regions { IfOk result (λ parts. length parts.bays.items ≡ regions) }
 {
     Ok(OwnParts {
@@ -56,12 +58,14 @@ pub fn free_parts(alloc: Global, regions: u32) -> Result<OwnParts, AllocError>
     })
 }
 
-/// Sets the entries of the guests' pages.
+/// Sets the entries of the guests' pages, where there is no page of 2 MB.
 #[tactic(auto, unfolding(snp_model::specs::Opening::facts_from))]
 pub fn set_pages(parts: &mut OwnParts, guests: &[GuestSpec], pages: &[PageSpec])
-    requires { AllByRecursion (IsPage (512 * length parts.old.bays.items) (length guests.now)) pages.now }
+    requires pages { AllByRecursion (IsPage (512 * length parts.old.bays.items) (length guests.now)) pages.now }
+    requires small { (f : ℕ) → (facts_of (own_bays parts.old.bays.items) f).size ≡ Small }
     ensures facts { facts_of (own_bays parts.new.bays.items) ≡ facts_from guests.now (facts_of (own_bays parts.old.bays.items)) pages.now }
     ensures words { words_of (own_bays parts.new.bays.items) ≡ words_of (own_bays parts.old.bays.items) }
+    ensures locks { locks_of (own_stock parts.new.bays.items) ≡ locks_of (own_stock parts.old.bays.items) }
     ensures regions { length parts.new.bays.items ≡ length parts.old.bays.items }
 {
     'pages: for page in pages {
@@ -75,6 +79,7 @@ pub fn set_words(parts: &mut OwnParts, words: &[WordSpec])
     requires { AllByRecursion (IsWord (512 * length parts.old.bays.items)) words.now }
     ensures words { words_of (own_bays parts.new.bays.items) ≡ words_from (words_of (own_bays parts.old.bays.items)) words.now }
     ensures facts { facts_of (own_bays parts.new.bays.items) ≡ facts_of (own_bays parts.old.bays.items) }
+    ensures locks { locks_of (own_stock parts.new.bays.items) ≡ locks_of (own_stock parts.old.bays.items) }
     ensures regions { length parts.new.bays.items ≡ length parts.old.bays.items }
 {
     'words: for word in words {

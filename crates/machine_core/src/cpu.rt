@@ -1,27 +1,30 @@
-ghost use Rattle.std.specs.Prelude.{◌≡◌, ℕ, ◌+◌, ◌/◌, ◌%◌, ◌<◌, ◌≤◌, ◌^◌, length, List, ◌++◌, ◌∷◌, [], Some, IsSome};
+ghost use Rattle.std.specs.Prelude.{◌≡◌, ℕ, ◌+◌, ◌/◌, ◌%◌, ◌<◌, ◌≤◌, ◌^◌, length, List, ◌++◌, ◌∷◌, [], None, Some};
 ghost use Rattle.snp_model.specs.declared.event.Deed.TheVariants.{Access, Nested, Table};
 ghost use Rattle.snp_model.specs.declared.item.Op.TheVariants.{Load};
 ghost use Rattle.snp_model.specs.declared.scenario.GuestSpec.{GuestSpec};
 ghost use Rattle.snp_model.specs.Accesses.{IsPlace, guest_verdict};
-ghost use Rattle.snp_model.specs.OpenAttempts.{IsAccess};
+ghost use Rattle.snp_model.specs.Bounds.{IsCpu, IsGuestInside, IsPaging};
+ghost use Rattle.snp_model.specs.GuestWalk.{levels_of};
+ghost use Rattle.snp_model.specs.Moves.{is_running, table_place, table_word, begin_move, walked_move};
 ghost use Rattle.snp_model.specs.Opening.{asid_of, opening_contexts};
-ghost use Rattle.snp_model.specs.Sound.{IsPaging};
-ghost use Rattle.snp_model.specs.State.{ActorPart, Contents, word_of};
-ghost use Rattle.snp_model.specs.Step.{is_running, data_place, table_place, table_word, access_move, begin_move, cpu_access};
-ghost use Rattle.snp_model.specs.Touches.{cpu_touches};
+ghost use Rattle.snp_model.specs.State.{ActorPart, View, word_of};
+ghost use Rattle.snp_model.specs.Step.{data_place, access_move, data_move};
+ghost use Rattle.snp_model.specs.Touches.{walk_touches};
 ghost use Rattle.snp_model.specs.Verdicts.{private_verdict};
 ghost use Rattle.snp_model.specs.Walking.{index_of, guest_words, nested_words, guest_stands, walk_need, need_after, fault_of};
-ghost use Rattle.machine_core.specs.Bays.{HasTouched, contents_of, pages_of};
+ghost use Rattle.machine_core.specs.Actors.{IsBegun};
+ghost use Rattle.machine_core.specs.Bays.{HasFrame, HasTouched, locks_of, pages_of, view_on};
 ghost use Rattle.machine_core.specs.Moves.{move_by, processor_of, table_load, table_shown};
-ghost use Rattle.machine_core.specs.Walks.{IsWalkable, IsGuestInside, IsReading};
+ghost use Rattle.machine_core.specs.Walks.{IsReading};
 
 use crate::actor::ActorState;
-use crate::changes::{guest_access, guest_table_word, table_word};
+use crate::changes::guest_access;
 use crate::parts::Parts;
+use crate::reads::{guest_table_word, table_word};
 use crate::shown::Shown;
-use crate::walking::{fault_by_nested, fault_by_table, guest_stands, walk_need};
+use crate::walking::{fault_by_nested, fault_by_table, levels_of, walk_need};
 use guest_walk::is_canonical;
-use snp_model::{Deed, GuestEnd, GuestSpec, Need, Op, Outcome, PageSize, Paging, Place};
+use snp_model::{Deed, GuestEnd, GuestSpec, Lookup, Need, Op, Outcome, PageSize, Paging, Place};
 
 /// A guest's processor: its guest, from 1, its VMPL, the frame of its first nested table, and its guest tables.
 #[derive(Clone, Copy)]
@@ -32,12 +35,11 @@ pub struct Processor {
     pub paging: Paging,
 }
 
-/// An access of such a processor to a virtual address.
+/// The walks of an item of such a processor, and what they look up.
 #[derive(Clone, Copy)]
-pub struct GuestAccess {
+pub struct Walker {
     pub cpu: Processor,
-    pub address: u64,
-    pub op: Op,
+    pub lookup: Lookup,
 }
 
 // Whether a guest runs.
@@ -71,15 +73,15 @@ pub fn index_of(address: u64) -> u16
     (address / 8 % 512) as u16
 }
 
-// The beginning of an access.
-#[tactic(auto, unfolding(snp_model::specs::Step::begin_move))]
-fn begin(guests: &[GuestSpec], guest: u8, address: u64) -> Shown
-    requires { 0 < guest }
-    ensures { (contents : Contents) (part : ActorPart) → begin_move contents part (opening_contexts guests.now guest) address ≡ move_by result contents part }
+// The beginning of an item that has no refusal of its own.
+#[tactic(auto, unfolding(snp_model::specs::Moves::begin_move))]
+fn begin(guests: &[GuestSpec], walker: &Walker) -> Shown
+    requires { 0 < walker.now.cpu.guest }
+    ensures { (after : View) (part : ActorPart) → begin_move after.contents part (opening_contexts guests.now walker.now.cpu.guest) (levels_of walker.now.cpu.paging) walker.now.lookup.address None ≡ move_by result after part.standing }
 {
-    let outcome = if !is_running(guests, guest) {
+    let outcome = if !is_running(guests, walker.cpu.guest) {
         Some(Outcome::Offline)
-    } else if !is_canonical(address) {
+    } else if !is_canonical(levels_of(walker.cpu.paging), walker.lookup.address) {
         Some(Outcome::Gp)
     } else {
         None
@@ -95,31 +97,31 @@ fn begin(guests: &[GuestSpec], guest: u8, address: u64) -> Shown
 fn read_nested<P: Parts>(
     parts: &P,
     frames: u32,
-    part: &ActorState,
-    access: &GuestAccess,
+    actor: &ActorState,
+    walker: &Walker,
     stands: GuestEnd,
     frame: u32,
     index: u16,
 ) -> Shown
-    requires npt { access.now.cpu.npt < frames }
+    requires npt { walker.now.cpu.npt < frames }
     requires inside { IsGuestInside stands }
-    requires stands { stands ≡ guest_stands access.now.cpu.paging access.now.address access.now.op (guest_words part.now.deeds) }
-    requires reads { IsReading (walk_need frames access.now.cpu.npt access.now.op stands (nested_words part.now.deeds)) }
-    requires has { IsSome (P.bays parts.now (frame / 512)) }
+    requires stands { stands ≡ guest_stands walker.now.cpu.paging walker.now.lookup (guest_words actor.now.deeds) }
+    requires reads { IsReading (walk_need frames walker.now.cpu.npt walker.now.lookup stands (nested_words actor.now.deeds)) }
+    requires has { HasFrame (P.stock parts.now) frame }
     requires index { index < 512 }
-    ensures { let deed = Nested frame index (table_word (pages_of (P.bays parts.now) frame) index) in
-        result ≡ record { deed = deed; outcome = fault_of (need_after frames (processor_of access.now.cpu) access.now.address access.now.op (part.now.deeds ++ deed ∷ [])) } }
+    ensures { let deed = Nested frame index (table_word (pages_of (P.stock parts.now).bays frame) index) in
+        result ≡ record { deed = deed; outcome = fault_of (need_after frames (processor_of walker.now.cpu) walker.now.lookup (actor.now.deeds ++ deed ∷ [])) } }
 {
     let value = table_word(parts, frame, index);
-    let npt = access.cpu.npt;
-    let words = part.nested_words();
+    let npt = walker.cpu.npt;
+    let words = actor.nested_words();
     Shown {
         deed: Deed::Nested {
             frame,
             index,
             value,
         },
-        outcome: fault_by_nested(frames, npt, &access.op, stands, words, value),
+        outcome: fault_by_nested(frames, npt, &walker.lookup, stands, words, value),
     }
 }
 
@@ -127,18 +129,18 @@ fn read_nested<P: Parts>(
 #[tactic(auto, using(crate::proofs::CpuLaws::table_read_more))]
 fn read_table<P: Parts>(
     parts: &P,
-    part: &ActorState,
-    access: &GuestAccess,
+    actor: &ActorState,
+    walker: &Walker,
     place: &Place,
     frame: u32,
 ) -> Shown
-    requires paging { IsWalkable access.now.cpu.paging access.now.address }
-    requires has { IsSome (P.bays parts.now (frame / 512)) }
+    requires paging { IsPaging walker.now.cpu.paging }
+    requires has { HasFrame (P.stock parts.now) frame }
     requires place { IsPlace place.now }
     requires slot { place.now.slot ≡ frame % 512 }
-    ensures { (frames : ℕ) → let page = pages_of (P.bays parts.now) frame in
+    ensures { (frames : ℕ) → let page = pages_of (P.stock parts.now).bays frame in
         result ≡ table_shown (table_load (private_verdict page.facts place.now Load) (word_of page place.now.index)) place.now.gpn place.now.index frame
-        (λ value. fault_of (need_after frames (processor_of access.now.cpu) access.now.address access.now.op (part.now.deeds ++ Table place.now.gpn place.now.index frame (Some value) ∷ []))) }
+        (λ value. fault_of (need_after frames (processor_of walker.now.cpu) walker.now.lookup (actor.now.deeds ++ Table place.now.gpn place.now.index frame (Some value) ∷ []))) }
 {
     let gpn = place.gpn;
     let index = place.index as u16;
@@ -150,13 +152,7 @@ fn read_table<P: Parts>(
                 frame,
                 value: Some(word),
             },
-            outcome: fault_by_table(
-                access.cpu.paging,
-                access.address,
-                &access.op,
-                part.guest_words(),
-                word,
-            ),
+            outcome: fault_by_table(walker.cpu.paging, &walker.lookup, actor.guest_words(), word),
         },
         Err(outcome) => {
             let deed = Deed::Table {
@@ -201,25 +197,25 @@ fn table_place(
 // Where an access goes that has come to a frame.
 fn data_place(
     guests: &[GuestSpec],
-    access: &GuestAccess,
+    walker: &Walker,
     gpn: u64,
     private: bool,
     frame: u32,
     size: PageSize,
 ) -> Place
-    requires guest { 0 < access.now.cpu.guest }
-    requires vmpl { access.now.cpu.vmpl < 4 }
+    requires guest { 0 < walker.now.cpu.guest }
+    requires vmpl { walker.now.cpu.vmpl < 4 }
     requires gpn { gpn < 2 ^ 36 }
-    ensures place { result ≡ data_place (asid_of guests.now access.now.cpu.guest) access.now.cpu.vmpl access.now.address gpn private frame size }
+    ensures place { result ≡ data_place (asid_of guests.now walker.now.cpu.guest) walker.now.cpu.vmpl walker.now.lookup.address gpn private frame size }
     ensures inside { IsPlace result }
 {
     Place {
-        asid: asid_of(guests, access.cpu.guest),
+        asid: asid_of(guests, walker.cpu.guest),
         gpn,
         slot: frame as usize % 512,
-        index: index_of(access.address) as usize,
+        index: index_of(walker.lookup.address) as usize,
         leaf: size,
-        vmpl: access.cpu.vmpl,
+        vmpl: walker.cpu.vmpl,
         private,
         table: false,
     }
@@ -227,10 +223,13 @@ fn data_place(
 
 // The event of the access itself, at the frame that its walks have come to.
 fn reach<P: Parts>(parts: &mut P, place: &Place, frame: u32, op: &Op) -> Shown
-    requires has { IsSome (P.bays parts.old (frame / 512)) }
+    requires has { HasFrame (P.stock parts.old) frame }
     requires place { IsPlace place.now }
     requires slot { place.now.slot ≡ frame % 512 }
-    ensures moves { (guests : List GuestSpec) (part : ActorPart) → access_move (contents_of (P.bays parts.old) guests) part (Access place.now.gpn place.now.index frame place.now.private) (guest_verdict (pages_of (P.bays parts.old) frame).facts place.now op.now) op.now frame place.now.index ≡ move_by result (contents_of (P.bays parts.new) guests) part }
+    ensures moves { (guests : List GuestSpec) (part : ActorPart) → let before = view_on (P.stock parts.old) guests in
+        access_move before.contents part (Access place.now.gpn place.now.index frame place.now.private) (guest_verdict (before.contents.pages frame).facts place.now op.now) op.now frame place.now.index
+        ≡ move_by result (view_on (P.stock parts.new) guests) part.standing }
+    ensures locks { locks_of (P.stock parts.new) ≡ locks_of (P.stock parts.old) }
     ensures kept { P.kept parts.old parts.new }
 {
     let outcome = guest_access(parts, frame, place, op);
@@ -244,31 +243,40 @@ fn reach<P: Parts>(parts: &mut P, place: &Place, frame: u32, op: &Op) -> Shown
 }
 
 /// The next event of an access of a guest's processor, in memory of so many frames.
-#[tactic(auto, using(crate::proofs::CpuLaws::table_moves), unfolding(snp_model::specs::Step::cpu_access, snp_model::specs::Step::need_move))]
+#[tactic(auto, using(crate::proofs::CpuLaws::table_moves), unfolding(snp_model::specs::Moves::walked_move, snp_model::specs::Moves::need_move))]
 pub fn cpu_access<P: Parts>(
     parts: &mut P,
     frames: u32,
     guests: &[GuestSpec],
-    part: &ActorState,
-    access: &GuestAccess,
+    actor: &ActorState,
+    walker: &Walker,
+    op: &Op,
+    stands: GuestEnd,
 ) -> Shown
-    requires guest { 0 < access.now.cpu.guest }
-    requires vmpl { access.now.cpu.vmpl < 4 }
-    requires npt { access.now.cpu.npt < frames }
-    requires paging { IsPaging access.now.cpu.paging }
-    requires walking { IsAccess frames (processor_of access.now.cpu) access.now.address access.now.op part.now.deeds }
-    requires has { HasTouched (cpu_touches frames (processor_of access.now.cpu) access.now.address access.now.op part.now.deeds) (P.bays parts.old) }
-    ensures moves { cpu_access frames guests.now (contents_of (P.bays parts.old) guests.now) part.now (processor_of access.now.cpu) access.now.address access.now.op part.now.deeds ≡ move_by result (contents_of (P.bays parts.new) guests.now) part.now }
+    requires cpu { IsCpu frames (length guests.now) walker.now.cpu.guest walker.now.cpu.vmpl walker.now.cpu.npt walker.now.cpu.paging }
+    requires stands { IsBegun actor.now.deeds → stands ≡ guest_stands walker.now.cpu.paging walker.now.lookup (guest_words actor.now.deeds) }
+    requires inside { IsGuestInside stands }
+    requires has { HasTouched (walk_touches frames (processor_of walker.now.cpu) walker.now.lookup actor.now.deeds) (P.stock parts.old) }
+    ensures moves { let before = view_on (P.stock parts.old) guests.now in
+        let cpu = processor_of walker.now.cpu in
+        walked_move frames guests.now before.contents actor.now cpu walker.now.lookup None (data_move guests.now before.contents actor.now cpu walker.now.lookup.address op.now) actor.now.deeds
+        ≡ move_by result (view_on (P.stock parts.new) guests.now) actor.now.standing }
+    ensures locks { locks_of (P.stock parts.new) ≡ locks_of (P.stock parts.old) }
     ensures kept { P.kept parts.old parts.new }
 {
-    let cpu = access.cpu;
-    if part.deeds().is_empty() {
-        return begin(guests, cpu.guest, access.address);
+    let cpu = walker.cpu;
+    if actor.deeds().is_empty() {
+        return begin(guests, walker);
     }
-    let stands = guest_stands(cpu.paging, access.address, &access.op, part.guest_words());
-    match walk_need(frames, cpu.npt, &access.op, stands, part.nested_words()) {
+    match walk_need(
+        frames,
+        cpu.npt,
+        &walker.lookup,
+        stands,
+        actor.nested_words(),
+    ) {
         Need::Nested { frame, index } => {
-            read_nested(parts, frames, part, access, stands, frame, index)
+            read_nested(parts, frames, actor, walker, stands, frame, index)
         }
         Need::Table {
             gpn,
@@ -277,7 +285,7 @@ pub fn cpu_access<P: Parts>(
             size,
         } => {
             let place = table_place(guests, cpu, gpn, index, frame, size);
-            read_table(parts, part, access, &place, frame)
+            read_table(parts, actor, walker, &place, frame)
         }
         Need::Data {
             gpn,
@@ -285,9 +293,9 @@ pub fn cpu_access<P: Parts>(
             frame,
             size,
         } => {
-            let place = data_place(guests, access, gpn, private, frame, size);
-            reach(parts, &place, frame, &access.op)
+            let place = data_place(guests, walker, gpn, private, frame, size);
+            reach(parts, &place, frame, op)
         }
-        Need::Fault(_) => Shown::unbuilt(),
+        Need::Fault(_) => Shown::faulted(),
     }
 }

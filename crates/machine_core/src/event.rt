@@ -1,20 +1,24 @@
 ghost use Rattle.std.specs.Prelude.{◌≡◌, ◌<◌, List, length};
 ghost use Rattle.snp_model.specs.declared.scenario.GuestSpec.{GuestSpec};
 ghost use Rattle.snp_model.specs.declared.scenario.Role.TheVariants.{Cpu, Host, Firmware};
-ghost use Rattle.snp_model.specs.OpenAttempts.{IsAttempt, IsWalking};
-ghost use Rattle.snp_model.specs.Room.{IsBounded};
+ghost use Rattle.snp_model.specs.Bounds.{IsCpu, IsGuestInside, IsItemOf};
+ghost use Rattle.snp_model.specs.Ready.{IsReady};
 ghost use Rattle.snp_model.specs.Step.{item_move, line_at, step_of};
 ghost use Rattle.snp_model.specs.Touches.{item_touches};
-ghost use Rattle.machine_core.specs.Bays.{HasAll, HasTouched, contents_of};
-ghost use Rattle.machine_core.specs.Moves.{move_by, view_on, IsSoundPart, IsSoundRole, IsSoundItem};
+ghost use Rattle.snp_model.specs.Walking.{guest_words};
+ghost use Rattle.machine_core.specs.Actors.{IsBegun};
+ghost use Rattle.machine_core.specs.Bays.{HasAll, HasTouched, locks_of, view_on};
+ghost use Rattle.machine_core.specs.Moves.{move_by};
+ghost use Rattle.machine_core.specs.Walks.{stands_of};
 
 use crate::actor::ActorState;
-use crate::cpu::{GuestAccess, Processor, cpu_access};
+use crate::cpu::{Processor, Walker, cpu_access};
 use crate::host::host_access;
 use crate::parts::Parts;
 use crate::shown::Shown;
 use crate::skip::skip;
-use snp_model::{Event, GuestSpec, Item, Role};
+use crate::walking::lookup_of;
+use snp_model::{Event, GuestEnd, GuestSpec, Item, Role};
 
 /// Makes the next event of an unfinished actor in memory of so many frames: the step of the tables, over
 /// parts that have the regions that it touches. Takes no memory.
@@ -24,18 +28,19 @@ pub(crate) fn advance<P: Parts>(
     guests: &[GuestSpec],
     parts: &mut P,
 ) -> Event
-    requires sound { IsSoundPart frames (length guests.now) actor.old }
+    requires ready { IsReady frames guests.now actor.old }
     requires unfinished { actor.old.item < length actor.old.script }
-    requires short { IsBounded actor.old }
-    requires walking { IsWalking frames actor.old }
-    requires has { HasAll frames actor.old (P.bays parts.old) }
-    ensures event { result ≡ (step_of frames guests.now actor.old (view_on (contents_of (P.bays parts.old) guests.now))).event }
-    ensures part { actor.new ≡ (step_of frames guests.now actor.old (view_on (contents_of (P.bays parts.old) guests.now))).part }
-    ensures contents { contents_of (P.bays parts.new) guests.now ≡ (step_of frames guests.now actor.old (view_on (contents_of (P.bays parts.old) guests.now))).contents }
+    requires has { HasAll frames guests.now actor.old (P.stock parts.old) }
+    ensures event { result ≡ (step_of frames guests.now actor.old (view_on (P.stock parts.old) guests.now)).event }
+    ensures part { actor.new ≡ (step_of frames guests.now actor.old (view_on (P.stock parts.old) guests.now)).part }
+    ensures contents { (view_on (P.stock parts.new) guests.now).contents ≡ (step_of frames guests.now actor.old (view_on (P.stock parts.old) guests.now)).contents }
+
+    // The locks of other actors stay, and no event takes one yet.
+    ensures locks { locks_of (P.stock parts.new) ≡ locks_of (P.stock parts.old) }
     ensures kept { P.kept parts.old parts.new }
 {
     let shown = next_event(parts, frames, guests, actor);
-    actor.take_down(shown)
+    actor.take_down(&shown)
 }
 
 // What the next event of an unfinished actor shows; the parts are then as after it.
@@ -44,17 +49,18 @@ fn next_event<P: Parts>(
     parts: &mut P,
     frames: u32,
     guests: &[GuestSpec],
-    part: &ActorState,
+    actor: &ActorState,
 ) -> Shown
-    requires sound { IsSoundPart frames (length guests.now) part.now }
-    requires unfinished { part.now.item < length part.now.script }
-    requires walking { IsWalking frames part.now }
-    requires has { HasAll frames part.now (P.bays parts.old) }
-    ensures moves { item_move frames guests.now (view_on (contents_of (P.bays parts.old) guests.now)) part.now part.now.role (line_at part.now.script part.now.item).item ≡ move_by result (contents_of (P.bays parts.new) guests.now) part.now }
+    requires ready { IsReady frames guests.now actor.now }
+    requires unfinished { actor.now.item < length actor.now.script }
+    requires has { HasAll frames guests.now actor.now (P.stock parts.old) }
+    ensures moves { item_move frames guests.now (view_on (P.stock parts.old) guests.now) actor.now actor.now.role (line_at actor.now.script actor.now.item).item
+        ≡ move_by result (view_on (P.stock parts.new) guests.now) actor.now.standing }
+    ensures locks { locks_of (P.stock parts.new) ≡ locks_of (P.stock parts.old) }
     ensures kept { P.kept parts.old parts.new }
 {
-    let line = part.line();
-    match part.role() {
+    let line = actor.line();
+    match actor.role() {
         Role::Cpu {
             guest,
             vmpl,
@@ -67,74 +73,105 @@ fn next_event<P: Parts>(
                 npt,
                 paging,
             };
-            cpu_event(parts, frames, guests, part, cpu, line.item)
+            cpu_event(
+                parts,
+                frames,
+                guests,
+                actor,
+                cpu,
+                line.item,
+                actor.guest_stands(),
+            )
         }
-        Role::Host => host_event(parts, frames, part, line.item),
-        Role::Firmware => firmware_event(parts, frames, part, line.item),
+        Role::Host => host_event(parts, frames, guests, actor, line.item),
+        Role::Firmware => firmware_event(parts, frames, guests, actor, line.item),
     }
 }
 
 // The next event of a guest's processor.
-#[tactic(auto, unfolding(snp_model::specs::Step::item_move, snp_model::specs::Touches::item_touches, snp_model::specs::OpenAttempts::IsAttempt))]
+#[tactic(auto, unfolding(snp_model::specs::Step::item_move, snp_model::specs::Touches::item_touches))]
 fn cpu_event<P: Parts>(
     parts: &mut P,
     frames: u32,
     guests: &[GuestSpec],
-    part: &ActorState,
+    actor: &ActorState,
     cpu: Processor,
     item: Item,
+    stands: GuestEnd,
 ) -> Shown
-    requires sound { IsSoundRole frames (length guests.now) (Cpu cpu.guest cpu.vmpl cpu.npt cpu.paging) }
-    requires walking { IsAttempt frames (Cpu cpu.guest cpu.vmpl cpu.npt cpu.paging) item part.now.deeds }
-    requires has { HasTouched (item_touches frames part.now.deeds (Cpu cpu.guest cpu.vmpl cpu.npt cpu.paging) item) (P.bays parts.old) }
-    ensures moves { item_move frames guests.now (view_on (contents_of (P.bays parts.old) guests.now)) part.now (Cpu cpu.guest cpu.vmpl cpu.npt cpu.paging) item ≡ move_by result (contents_of (P.bays parts.new) guests.now) part.now }
+    requires cpu { IsCpu frames (length guests.now) cpu.guest cpu.vmpl cpu.npt cpu.paging }
+    requires item { IsItemOf frames (Cpu cpu.guest cpu.vmpl cpu.npt cpu.paging) item }
+    requires stands { IsBegun actor.now.deeds → stands ≡ stands_of (Cpu cpu.guest cpu.vmpl cpu.npt cpu.paging) item (guest_words actor.now.deeds) }
+    requires inside { IsGuestInside stands }
+    requires has { HasTouched (item_touches frames guests.now actor.now (Cpu cpu.guest cpu.vmpl cpu.npt cpu.paging) item) (P.stock parts.old) }
+    ensures moves { item_move frames guests.now (view_on (P.stock parts.old) guests.now) actor.now (Cpu cpu.guest cpu.vmpl cpu.npt cpu.paging) item
+        ≡ move_by result (view_on (P.stock parts.new) guests.now) actor.now.standing }
+    ensures locks { locks_of (P.stock parts.new) ≡ locks_of (P.stock parts.old) }
     ensures kept { P.kept parts.old parts.new }
 {
     match item {
         Item::Access { address, op } => {
-            let access = GuestAccess { cpu, address, op };
-            cpu_access(parts, frames, guests, part, &access)
+            let walker = Walker {
+                cpu,
+                lookup: lookup_of(address, &op),
+            };
+            cpu_access(parts, frames, guests, actor, &walker, &op, stands)
         }
         Item::Pvalidate { .. } => Shown::unbuilt(),
         Item::Rmpadjust { .. } => Shown::unbuilt(),
-        Item::Rmpupdate(_) => Shown::unbuilt(),
-        Item::Psmash { .. } => Shown::unbuilt(),
-        Item::Firmware(_) => Shown::unbuilt(),
-        Item::Skip { count, test } => skip(part, count, &test),
+        Item::Rmpupdate(_) => Shown::misplaced(),
+        Item::Psmash { .. } => Shown::misplaced(),
+        Item::Firmware(_) => Shown::misplaced(),
+        Item::Skip { count, test } => skip(actor, count, &test),
     }
 }
 
 // The next event of a hypervisor's processor.
 #[tactic(auto, using(crate::proofs::TouchLaws::frame_has), unfolding(snp_model::specs::Step::item_move, snp_model::specs::Touches::item_touches))]
-fn host_event<P: Parts>(parts: &mut P, frames: u32, part: &ActorState, item: Item) -> Shown
-    requires sound { IsSoundItem frames Host item }
-    requires has { HasTouched (item_touches frames part.now.deeds Host item) (P.bays parts.old) }
-    ensures moves { (guests : List GuestSpec) → item_move frames guests (view_on (contents_of (P.bays parts.old) guests)) part.now Host item ≡ move_by result (contents_of (P.bays parts.new) guests) part.now }
+fn host_event<P: Parts>(
+    parts: &mut P,
+    frames: u32,
+    guests: &[GuestSpec],
+    actor: &ActorState,
+    item: Item,
+) -> Shown
+    requires item { IsItemOf frames Host item }
+    requires has { HasTouched (item_touches frames guests.now actor.now Host item) (P.stock parts.old) }
+    ensures moves { item_move frames guests.now (view_on (P.stock parts.old) guests.now) actor.now Host item
+        ≡ move_by result (view_on (P.stock parts.new) guests.now) actor.now.standing }
+    ensures locks { locks_of (P.stock parts.new) ≡ locks_of (P.stock parts.old) }
     ensures kept { P.kept parts.old parts.new }
 {
     match item {
         Item::Access { address, op } => host_access(parts, frames, address, &op),
-        Item::Pvalidate { .. } => Shown::unbuilt(),
-        Item::Rmpadjust { .. } => Shown::unbuilt(),
+        Item::Pvalidate { .. } => Shown::misplaced(),
+        Item::Rmpadjust { .. } => Shown::misplaced(),
         Item::Rmpupdate(_) => Shown::unbuilt(),
         Item::Psmash { .. } => Shown::unbuilt(),
-        Item::Firmware(_) => Shown::unbuilt(),
-        Item::Skip { count, test } => skip(part, count, &test),
+        Item::Firmware(_) => Shown::misplaced(),
+        Item::Skip { count, test } => skip(actor, count, &test),
     }
 }
 
 // The next event of a firmware actor.
 #[tactic(auto, unfolding(snp_model::specs::Step::item_move))]
-fn firmware_event<P: Parts>(parts: &P, frames: u32, part: &ActorState, item: Item) -> Shown
-    ensures { (guests : List GuestSpec) → item_move frames guests (view_on (contents_of (P.bays parts.now) guests)) part.now Firmware item ≡ move_by result (contents_of (P.bays parts.now) guests) part.now }
+fn firmware_event<P: Parts>(
+    parts: &P,
+    frames: u32,
+    guests: &[GuestSpec],
+    actor: &ActorState,
+    item: Item,
+) -> Shown
+    ensures { item_move frames guests.now (view_on (P.stock parts.now) guests.now) actor.now Firmware item
+        ≡ move_by result (view_on (P.stock parts.now) guests.now) actor.now.standing }
 {
     match item {
-        Item::Access { .. } => Shown::unbuilt(),
-        Item::Pvalidate { .. } => Shown::unbuilt(),
-        Item::Rmpadjust { .. } => Shown::unbuilt(),
-        Item::Rmpupdate(_) => Shown::unbuilt(),
-        Item::Psmash { .. } => Shown::unbuilt(),
+        Item::Access { .. } => Shown::misplaced(),
+        Item::Pvalidate { .. } => Shown::misplaced(),
+        Item::Rmpadjust { .. } => Shown::misplaced(),
+        Item::Rmpupdate(_) => Shown::misplaced(),
+        Item::Psmash { .. } => Shown::misplaced(),
         Item::Firmware(_) => Shown::unbuilt(),
-        Item::Skip { count, test } => skip(part, count, &test),
+        Item::Skip { count, test } => skip(actor, count, &test),
     }
 }

@@ -1,8 +1,8 @@
-ghost use Rattle.std.specs.Prelude.{◌≡◌, ◌/◌, ◌<◌, List, IsSome};
+ghost use Rattle.std.specs.Prelude.{◌≡◌, ◌/◌, ◌<◌, List};
 ghost use Rattle.snp_model.specs.State.{ActorPart};
 ghost use Rattle.snp_model.specs.Step.{host_access};
 ghost use Rattle.snp_model.specs.declared.scenario.GuestSpec.{GuestSpec};
-ghost use Rattle.machine_core.specs.Bays.{contents_of};
+ghost use Rattle.machine_core.specs.Bays.{HasFrame, locks_of, view_on};
 ghost use Rattle.machine_core.specs.Moves.{move_by};
 
 use crate::changes;
@@ -15,8 +15,9 @@ use snp_model::{Deed, Op};
 #[tactic(auto, unfolding(snp_model::specs::Step::host_access))]
 pub fn host_access<P: Parts>(parts: &mut P, frames: u32, address: u64, op: &Op) -> Shown
     requires within { address / 4096 < frames }
-    requires has { IsSome (P.bays parts.old (address / 4096 / 512)) }
-    ensures moves { (guests : List GuestSpec) (part : ActorPart) → host_access (contents_of (P.bays parts.old) guests) part address op.now ≡ move_by result (contents_of (P.bays parts.new) guests) part }
+    requires has { HasFrame (P.stock parts.old) (address / 4096) }
+    ensures moves { (guests : List GuestSpec) (part : ActorPart) → host_access (view_on (P.stock parts.old) guests).contents part address op.now ≡ move_by result (view_on (P.stock parts.new) guests) part.standing }
+    ensures locks { locks_of (P.stock parts.new) ≡ locks_of (P.stock parts.old) }
     ensures kept { P.kept parts.old parts.new }
 {
     let frame = (address / 4096) as u32;

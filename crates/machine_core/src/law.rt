@@ -3,10 +3,12 @@ ghost use Rattle.snp_model.specs.declared.scenario.GuestSpec.{GuestSpec};
 ghost use Rattle.snp_model.specs.declared.scenario.Scenario.{Scenario};
 ghost use Rattle.snp_model.specs.Attempts.{attempts_of};
 ghost use Rattle.snp_model.specs.GuestMemory.{memory_after};
-ghost use Rattle.snp_model.specs.Holders.{Archive, Core};
+ghost use Rattle.snp_model.specs.Holders.{Core};
+ghost use Rattle.snp_model.specs.Live.{Archive, vault_of};
 ghost use Rattle.snp_model.specs.OpenAttempts.{AreWalking, ReadsMemory};
 ghost use Rattle.snp_model.specs.Opening.{asid_of};
 ghost use Rattle.snp_model.specs.Reading.{Valid};
+ghost use Rattle.snp_model.specs.Ready.{AreReady};
 ghost use Rattle.snp_model.specs.Room.{AreBounded};
 ghost use Rattle.snp_model.specs.Run.{IsDefined, state_after};
 ghost use Rattle.snp_model.specs.State.{ActorPart, State, View};
@@ -18,12 +20,12 @@ ghost use Rattle.snp_model.specs.Touches.{AgreeBeside, SeeAlike, StepsAlike, tou
 pub fn machine_laws()
     // A step depends on nothing but the actor's own part and what it touches.
     ensures local { (frames : ℕ) (guests : List GuestSpec) (part : ActorPart) (one other : View)
-        → SeeAlike (touches frames part) one other
-        → StepsAlike (touches frames part) (step_of frames guests part one) (step_of frames guests part other) }
+        → SeeAlike (touches frames guests part) one other
+        → StepsAlike (touches frames guests part) (step_of frames guests part one) (step_of frames guests part other) }
 
     // It changes nothing else.
     ensures alone { (frames : ℕ) (guests : List GuestSpec) (part : ActorPart) (view : View)
-        → AgreeBeside (touches frames part) view.contents (step_of frames guests part view).contents }
+        → AgreeBeside (touches frames guests part) view.contents (step_of frames guests part view).contents }
 
     // The word that an event reads of a table is the memory's at that event.
     ensures reads { (m : State) (actor : ℕ) → ReadsMemory m.contents (event_of m actor).deed }
@@ -32,16 +34,21 @@ pub fn machine_laws()
     ensures walking { (scenario : Scenario) (schedule : List ℕ)
         → IsDefined scenario schedule → AreWalking (state_after scenario schedule) }
 
-    // An open attempt is short, and a run has at most 32 events for each attempt.
+    // An open attempt has fewer than 32 events so far, and a run has at most 32 for each attempt.
     ensures short { (scenario : Scenario) (schedule : List ℕ)
         → IsDefined scenario schedule → AreBounded (state_after scenario schedule) }
     ensures events { (scenario : Scenario) (schedule : List ℕ)
         → IsDefined scenario schedule → length schedule ≤ 32 * attempts_of scenario }
 
+    // In every run of a valid scenario each actor is ready for its next event: this is all that the event rests on, beside
+    // what it touches.
+    ensures ready { (scenario : Scenario) (schedule : List ℕ)
+        → Valid scenario → IsDefined scenario schedule → AreReady (state_after scenario schedule) }
+
     // In every run each page of a declared guest has at most one holder, which has a page of the guest's memory with its
     // known words.
     ensures holders { (scenario : Scenario) (schedule : List ℕ) (archive : Archive) (guest : ℕ)
         → Valid scenario → 0 < guest → guest ≤ length scenario.guests
-        → Core (state_after scenario schedule).contents.pages archive (asid_of scenario.guests guest)
+        → Core (asid_of scenario.guests guest) (vault_of guest (state_after scenario schedule).contents archive)
         (memory_after scenario schedule guest) }
 {}

@@ -62,8 +62,8 @@ impl Machine {
         ensures after { state_of self.new ≡ after (state_of self.old) actor }
     {
         let frames = 512 * self.parts.bays.len() as u32;
-        let part = &mut self.actors[actor as usize - 1];
-        advance(part, frames, self.guests.as_slice(), &mut self.parts)
+        let state = &mut self.actors[actor as usize - 1];
+        advance(state, frames, self.guests.as_slice(), &mut self.parts)
     }
 
     /// Whether an actor has passed its last item, or doesn't exist.
@@ -76,7 +76,7 @@ impl Machine {
         }
         match self.actors.get(actor as usize - 1) {
             None => true,
-            Some(part) => part.is_finished(),
+            Some(state) => state.is_finished(),
         }
     }
 

@@ -19,6 +19,20 @@ impl Shown {
         Shown::last(Deed::Control, Outcome::Next)
     }
 
+    /// The event of an item of another role's, which no scenario has.
+    pub fn misplaced() -> Shown
+        ensures { result ≡ record { deed = Control; outcome = Some Next } }
+    {
+        Shown::last(Deed::Control, Outcome::Next)
+    }
+
+    /// The event of a walk that has faulted, at which no open attempt stands.
+    pub fn faulted() -> Shown
+        ensures { result ≡ record { deed = Control; outcome = Some Next } }
+    {
+        Shown::last(Deed::Control, Outcome::Next)
+    }
+
     /// An event that ends its attempt.
     pub fn last(deed: Deed, outcome: Outcome) -> Shown
         ensures { result ≡ record { deed = deed; outcome = Some outcome } }

@@ -1,58 +1,133 @@
-ghost use Rattle.std.specs.Prelude.{◌≡◌, ℕ, ◌<◌, ◌^◌, Bool, [], ◌∷◌, ◌++◌};
-ghost use Rattle.snp_model.specs.declared.item.Op.{Op};
-ghost use Rattle.snp_model.specs.Walking.{flat_gpn, guest_path, guest_stands, table_path, data_path, table_need, data_need, walk_need, fault_of};
-ghost use Rattle.machine_core.specs.Walks.{IsNestedInside, IsGuestInside, IsNeedInside, IsReading, IsWalkable};
+ghost use Rattle.std.specs.Prelude.{◌≡◌, ℕ, ◌<◌, ◌≤◌, ◌^◌, Bool, [], ◌∷◌, ◌++◌};
+ghost use Rattle.snp_model.specs.declared.walk.Lookup.{Lookup};
+ghost use Rattle.snp_model.specs.Bounds.{IsPaging, IsGuestInside, IsNestedInside, IsNeedInside};
+ghost use Rattle.snp_model.specs.GuestWalk.{guest_end, levels_of};
+ghost use Rattle.snp_model.specs.Walking.{lookup_of, flat_gpn, guest_path, counting, guest_stands, table_path, data_path, table_need, data_need, walk_need, fault_of};
+ghost use Rattle.machine_core.specs.Walks.{IsPagingRole, IsReading, no_walk, stands_of};
 
 use guest_walk::{guest_end, guest_end_with};
 use nested_walk::{nested_end, nested_end_after};
-use snp_model::{GuestEnd, GuestPath, Need, NestedEnd, NestedPath, Op, Outcome, PageSize, Paging};
+use snp_model::{
+    GuestEnd, GuestPath, Item, Lookup, Need, NestedEnd, NestedPath, Op, Outcome, PageSize, Paging,
+    Role,
+};
 
-/// Where an access stands in its guest walk, by the words of guest tables that it has read.
+/// The end that stands for a guest walk where there is none.
+pub fn no_walk() -> GuestEnd
+    ensures { result ≡ no_walk }
+{
+    GuestEnd::Fault(0)
+}
+
+/// What the walks of an access look up.
+pub fn lookup_of(address: u64, op: &Op) -> Lookup
+    ensures { result ≡ lookup_of address op.now }
+{
+    Lookup {
+        address,
+        write: op.writes(),
+        c_bit: true,
+    }
+}
+
+/// How many levels of guest tables there are. An address without guest tables is held to the rule of four.
+pub fn levels_of(paging: Paging) -> u8
+    ensures levels { result ≡ levels_of paging }
+    ensures low { 4 ≤ result }
+    ensures high { result ≤ 5 }
+{
+    match paging {
+        Paging::Flat => 4,
+        Paging::Four(_) => 4,
+        Paging::Five(_) => 5,
+    }
+}
+
+/// Where the guest walk of an actor's item stands that has read these words of guest tables.
+pub fn item_stands(role: &Role, item: &Item, words: &[u64]) -> GuestEnd
+    requires { IsPagingRole role.now }
+    ensures stands { result ≡ stands_of role.now item.now words.now }
+    ensures inside { IsGuestInside result }
+{
+    match role {
+        Role::Cpu { paging, .. } => match item {
+            Item::Access { address, op } => guest_stands(*paging, &lookup_of(*address, op), words),
+            Item::Pvalidate { .. } => no_walk(),
+            Item::Rmpadjust { .. } => no_walk(),
+            Item::Rmpupdate(_) => no_walk(),
+            Item::Psmash { .. } => no_walk(),
+            Item::Firmware(_) => no_walk(),
+            Item::Skip { .. } => no_walk(),
+        },
+        Role::Host => no_walk(),
+        Role::Firmware => no_walk(),
+    }
+}
+
+// Where an item stands in its guest walk, by the words of guest tables that it has read.
 #[tactic(auto, unfolding(snp_model::specs::Walking::guest_stands))]
-pub fn guest_stands(paging: Paging, address: u64, op: &Op, words: &[u64]) -> GuestEnd
-    requires { IsWalkable paging address }
-    ensures stands { result ≡ guest_stands paging address op.now words.now }
+fn guest_stands(paging: Paging, lookup: &Lookup, words: &[u64]) -> GuestEnd
+    requires { IsPaging paging }
+    ensures stands { result ≡ guest_stands paging lookup.now words.now }
     ensures inside { IsGuestInside result }
 {
     match paging {
         Paging::Flat => GuestEnd::Leaf {
-            gpn: flat_gpn(address),
+            gpn: flat_gpn(lookup.address),
             private: true,
             size: PageSize::Small,
         },
-        Paging::Four(root) => guest_end(&guest_path(root, address, op), words),
+        Paging::Four(root) => tables_stand(&guest_path(paging, root, lookup), lookup, words),
+        Paging::Five(root) => tables_stand(&guest_path(paging, root, lookup), lookup, words),
     }
 }
 
-/// The fault that the guest walk of an access comes to by one word more, if it does. A nested walk that has read no word
+// Where it stands in the walk of a path.
+fn tables_stand(path: &GuestPath, lookup: &Lookup, words: &[u64]) -> GuestEnd
+    requires low { 0 < path.now.levels }
+    requires high { path.now.levels ≤ 5 }
+    requires root { path.now.root < 2 ^ 36 }
+    ensures stands { result ≡ counting lookup.now.c_bit (guest_end path.now words.now) }
+    ensures inside { IsGuestInside result }
+{
+    counting(lookup.c_bit, guest_end(path, words))
+}
+
+/// The fault that the guest walk of an item comes to by one word more, if it does. A nested walk that has read no word
 /// yet has come to none.
 #[tactic(auto, using(crate::proofs::WalkingLaws::no_fault_yet), unfolding(snp_model::specs::Walking::guest_stands))]
-pub fn fault_by_table(
-    paging: Paging,
-    address: u64,
-    op: &Op,
-    words: &[u64],
-    word: u64,
-) -> Option<Outcome>
-    requires { IsWalkable paging address }
-    ensures { (frames npt : ℕ) → result ≡ fault_of (walk_need frames npt op.now (guest_stands paging address op.now (words.now ++ word ∷ [])) []) }
+pub fn fault_by_table(paging: Paging, lookup: &Lookup, words: &[u64], word: u64) -> Option<Outcome>
+    requires { IsPaging paging }
+    ensures { (frames npt : ℕ) → result ≡ fault_of (walk_need frames npt lookup.now (guest_stands paging lookup.now (words.now ++ word ∷ [])) []) }
 {
     match paging {
         Paging::Flat => None,
         Paging::Four(root) => {
-            let path = guest_path(root, address, op);
-            guest_fault(guest_end_with(&path, words, word))
+            tables_fault(&guest_path(paging, root, lookup), lookup, words, word)
+        }
+        Paging::Five(root) => {
+            tables_fault(&guest_path(paging, root, lookup), lookup, words, word)
         }
     }
 }
 
-/// What an access needs next, where its guest walk stands here: by the words of nested tables that the nested walk under
+// So in the walk of a path.
+fn tables_fault(path: &GuestPath, lookup: &Lookup, words: &[u64], word: u64) -> Option<Outcome>
+    requires low { 0 < path.now.levels }
+    requires high { path.now.levels ≤ 5 }
+    requires root { path.now.root < 2 ^ 36 }
+    ensures { (frames npt : ℕ) → result ≡ fault_of (walk_need frames npt lookup.now (counting lookup.now.c_bit (guest_end path.now (words.now ++ word ∷ []))) []) }
+{
+    guest_fault(counting(lookup.c_bit, guest_end_with(path, words, word)))
+}
+
+/// What an item needs next, where its guest walk stands here: by the words of nested tables that the nested walk under
 /// way has read.
 #[tactic(auto, unfolding(snp_model::specs::Walking::walk_need))]
-pub fn walk_need(frames: u32, npt: u32, op: &Op, stands: GuestEnd, words: &[u64]) -> Need
+pub fn walk_need(frames: u32, npt: u32, lookup: &Lookup, stands: GuestEnd, words: &[u64]) -> Need
     requires npt { npt < frames }
     requires inside { IsGuestInside stands }
-    ensures need { result ≡ walk_need frames npt op.now stands words.now }
+    ensures need { result ≡ walk_need frames npt lookup.now stands words.now }
     ensures inside { IsNeedInside frames result }
 {
     match stands {
@@ -60,7 +135,7 @@ pub fn walk_need(frames: u32, npt: u32, op: &Op, stands: GuestEnd, words: &[u64]
             table_need(gpn, index, nested_end(&table_path(frames, npt, gpn), words))
         }
         GuestEnd::Leaf { gpn, private, .. } => {
-            let path = data_path(frames, npt, gpn, private, op);
+            let path = data_path(frames, npt, gpn, private, lookup);
             data_need(gpn, private, nested_end(&path, words))
         }
         GuestEnd::Fault(code) => Need::Fault(Outcome::Pf(code)),
@@ -72,15 +147,15 @@ pub fn walk_need(frames: u32, npt: u32, op: &Op, stands: GuestEnd, words: &[u64]
 pub fn fault_by_nested(
     frames: u32,
     npt: u32,
-    op: &Op,
+    lookup: &Lookup,
     stands: GuestEnd,
     words: &[u64],
     word: u64,
 ) -> Option<Outcome>
     requires npt { npt < frames }
     requires inside { IsGuestInside stands }
-    requires reads { IsReading (walk_need frames npt op.now stands words.now) }
-    ensures { result ≡ fault_of (walk_need frames npt op.now stands (words.now ++ word ∷ [])) }
+    requires reads { IsReading (walk_need frames npt lookup.now stands words.now) }
+    ensures { result ≡ fault_of (walk_need frames npt lookup.now stands (words.now ++ word ∷ [])) }
 {
     match stands {
         GuestEnd::Read { gpn, .. } => {
@@ -88,22 +163,41 @@ pub fn fault_by_nested(
             nested_fault(nested_end_after(&path, words, word))
         }
         GuestEnd::Leaf { gpn, private, .. } => {
-            let path = data_path(frames, npt, gpn, private, op);
+            let path = data_path(frames, npt, gpn, private, lookup);
             nested_fault(nested_end_after(&path, words, word))
         }
         GuestEnd::Fault(code) => Some(Outcome::Pf(code)),
     }
 }
 
-// What a guest walk of four levels begins from.
-fn guest_path(root: u64, address: u64, op: &Op) -> GuestPath
-    ensures { result ≡ guest_path root address op.now }
+// What a guest walk begins from.
+fn guest_path(paging: Paging, root: u64, lookup: &Lookup) -> GuestPath
+    ensures path { result ≡ guest_path paging root lookup.now }
+    ensures low { 0 < result.levels }
+    ensures high { result.levels ≤ 5 }
+    ensures root { result.root ≡ root }
 {
     GuestPath {
-        levels: 4,
+        levels: levels_of(paging),
         root,
-        address,
-        write: op.writes(),
+        address: lookup.address,
+        write: lookup.write,
+    }
+}
+
+// Where a guest walk stands that counts the leaf's C bit or not.
+fn counting(c_bit: bool, stands: GuestEnd) -> GuestEnd
+    ensures stands { result ≡ counting c_bit stands }
+    ensures inside { IsGuestInside stands → IsGuestInside result }
+{
+    match stands {
+        GuestEnd::Read { gpn, index } => GuestEnd::Read { gpn, index },
+        GuestEnd::Leaf { gpn, private, size } => GuestEnd::Leaf {
+            gpn,
+            private: private || !c_bit,
+            size,
+        },
+        GuestEnd::Fault(code) => GuestEnd::Fault(code),
     }
 }
 
@@ -122,14 +216,14 @@ fn table_path(frames: u32, npt: u32, gpn: u64) -> NestedPath
 }
 
 // What the final nested walk begins from.
-fn data_path(frames: u32, npt: u32, gpn: u64, private: bool, op: &Op) -> NestedPath
-    ensures { result ≡ data_path frames npt gpn private op.now }
+fn data_path(frames: u32, npt: u32, gpn: u64, private: bool, lookup: &Lookup) -> NestedPath
+    ensures { result ≡ data_path frames npt gpn private lookup.now }
 {
     NestedPath {
         root: npt,
         frames,
         gpn,
-        write: op.writes(),
+        write: lookup.write,
         private,
         table: false,
     }
@@ -198,7 +292,7 @@ fn nested_fault(stands: NestedEnd) -> Option<Outcome>
 // The fault that a guest walk has come to, if it has.
 #[tactic(auto, using(crate::proofs::WalkingLaws::no_fault_read, crate::proofs::WalkingLaws::no_fault_yet, crate::proofs::WalkingLaws::fault_walked))]
 fn guest_fault(stands: GuestEnd) -> Option<Outcome>
-    ensures { (frames npt : ℕ) (op : Op) → result ≡ fault_of (walk_need frames npt op stands []) }
+    ensures { (frames npt : ℕ) (lookup : Lookup) → result ≡ fault_of (walk_need frames npt lookup stands []) }
 {
     match stands {
         GuestEnd::Read { .. } => None,

@@ -1,6 +1,6 @@
 ghost use Rattle.std.specs.Prelude.{◌≡◌, ◌≤◌, ◌<◌, not, ◌||◌, nat_lt};
 ghost use Rattle.snp_model.specs.NestedWalk as model;
-ghost use Rattle.nested_walk.specs.Entry.{EndIsInside};
+ghost use Rattle.snp_model.specs.Bounds.{IsNestedInside};
 
 use snp_model::{NestedEnd, NestedFault, NestedPath, PageSize};
 
@@ -10,7 +10,7 @@ pub(crate) fn after_word(path: &NestedPath, level: usize, word: u64) -> NestedEn
     requires low { 0 < level }
     requires high { level ≤ 4 }
     ensures value { result ≡ model.after_word path.now level word }
-    ensures inside { EndIsInside path.now.frames result }
+    ensures inside { IsNestedInside path.now.frames result }
 {
     let frame = frame_below(path, level, word);
     if is_absent(word, frame, path.frames) {

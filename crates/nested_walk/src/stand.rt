@@ -1,6 +1,7 @@
 ghost use Rattle.std.specs.Prelude.{◌≡◌, ◌<◌, [], ◌∷◌, ◌++◌};
 ghost use Rattle.snp_model.specs.NestedWalk as model;
-ghost use Rattle.nested_walk.specs.Entry.{EndIsWithin, IsRead};
+ghost use Rattle.snp_model.specs.Bounds.{IsNestedInside};
+ghost use Rattle.nested_walk.specs.Entry.{IsRead};
 
 use crate::entry::{after_word, nested_index};
 use snp_model::{NestedEnd, NestedPath};
@@ -9,7 +10,7 @@ use snp_model::{NestedEnd, NestedPath};
 pub fn nested_end(path: &NestedPath, words: &[u64]) -> NestedEnd
     requires { path.now.root < path.now.frames }
     ensures stands { result ≡ model.nested_end path.now words.now }
-    ensures inside { EndIsWithin path.now.frames result }
+    ensures inside { IsNestedInside path.now.frames result }
 {
     let mut level = 4;
     let mut table = path.root;

@@ -8,7 +8,7 @@ ghost use Rattle.scenario_text.specs.Answers.{Answers};
 use crate::draft::Made;
 use crate::fault::{LineFault, ScenarioFault};
 use crate::reading::fit;
-use script_text::words::cut;
+use script_text::words::{Words, cut};
 use snp_model::{Quantity, Reason, Scenario};
 use std::alloc::{AllocError, Global};
 
@@ -56,10 +56,11 @@ fn read_lines(alloc: Global, text: &[u8]) -> Result<Scenario, ScenarioFault>
     ensures { Says result (read_text text.now) }
 {
     let mut made = Made::Nothing;
+    let mut words = Words::new();
     let mut line: u32 = 1;
     let mut rest = text;
     'lines: while let Some((bytes, more)) = cut(rest, b'\n') {
-        match fit(alloc, &mut made, bytes) {
+        match fit(alloc, &mut made, &mut words, bytes) {
             Ok(()) => {}
             Err(fault) => return Err(at_line(line, fault)),
         }
@@ -69,7 +70,7 @@ fn read_lines(alloc: Global, text: &[u8]) -> Result<Scenario, ScenarioFault>
     end(line, made, rest)
 }
 
-/// Reads a scenario text. Its time is linear in the text, but for the repeats of pages, of which there are 8,192 at most.
+/// Reads a scenario text, in a time linear in it.
 pub fn read_scenario(alloc: Global, text: &[u8]) -> Result<Scenario, ScenarioFault>
     ensures { Answers result text.now }
 {

@@ -10,7 +10,8 @@ use Rattle.snp_model.specs.declared.scenario.Actor.{Actor}
 use Rattle.snp_model.specs.declared.scenario.Scenario.{Scenario}
 use Rattle.snp_model.specs.State.{ActorPart, State, part_of, idle_part}
 use Rattle.snp_model.specs.Locks.{view_of}
-use Rattle.snp_model.specs.Step.{Position, Move, event_of, after, part_after, item_move, line_at}
+use Rattle.snp_model.specs.Moves.{Move}
+use Rattle.snp_model.specs.Step.{Position, event_of, after, part_after, item_move, line_at}
 use Rattle.snp_model.specs.Opening.{opening, opening_part}
 use Rattle.snp_model.specs.Run.{run_from, IsDefinedFrom, IsDefined, position_from, events_of, AreAttempts, IsOrdered}
 use Rattle.snp_model.proofs.RunLaws.{Unfinished, unfinished_at, after_part, after_other, after_length}

@@ -5,9 +5,11 @@ use Rattle.std.proofs.lemmas.List.{get_or-set_same, get_or-set_other, set_past, 
 use Rattle.snp_model.specs.declared.event.Event.{Event}
 use Rattle.snp_model.specs.declared.event.Outcome.{Outcome}
 use Rattle.snp_model.specs.declared.item.Line.{Line}
-use Rattle.snp_model.specs.State.{ActorPart, State, part_of, idle_part, IsUnfinished}
+use Rattle.snp_model.specs.declared.scenario.GuestSpec.{GuestSpec}
+use Rattle.snp_model.specs.State.{ActorPart, State, View, part_of, idle_part, IsUnfinished}
 use Rattle.snp_model.specs.Locks.{view_of}
-use Rattle.snp_model.specs.Step.{Position, Move, step_of, event_of, after, part_after, position_after, tries_again, item_move, line_at}
+use Rattle.snp_model.specs.Moves.{Move}
+use Rattle.snp_model.specs.Step.{Position, step_of, event_of, after, part_after, position_after, tries_again, item_move, line_at}
 use Rattle.snp_model.specs.Run.{run_from, state_from, IsDefinedFrom}
 
 -- a run under a schedule in two parts
@@ -110,6 +112,11 @@ unfolding part_after
 part_after_keeps p move None = record { role = refl; script = refl; item = omega arith }
 part_after_keeps p move (Some outcome) =
     record { role = refl; script = refl; item = position_forward (line_at p.script p.item) (record { item = p.item; attempt = p.attempt }) outcome }
+
+pub step_keeps : (frames : ℕ) (guests : List GuestSpec) (part : ActorPart) (view : View) → KeepsPlace part (step_of frames guests part view).part
+step_keeps frames guests part view =
+    let move = item_move frames guests view part part.role (line_at part.script part.item).item in
+    part_after_keeps part move move.outcome
 
 pub after_keeps : (m : State) (actor other : ℕ) → KeepsPlace (part_of m other) (part_of (after m actor) other)
 unfolding after

@@ -5,7 +5,6 @@ use Rattle.std.specs.Option.{option_map}
 use Rattle.std.specs.Ordering.{nat_cmp}
 use Rattle.snp_model.specs.declared.command.Command.TheVariants as commands
 use Rattle.snp_model.specs.declared.entry.PageSize.{PageSize}
-use Rattle.snp_model.specs.declared.entry.PageSize.TheVariants.{Small, Large}
 use Rattle.snp_model.specs.declared.event.Deed.{Deed}
 use Rattle.snp_model.specs.declared.event.Deed.TheVariants as deeds
 use Rattle.snp_model.specs.declared.event.Outcome.{Outcome}
@@ -20,8 +19,9 @@ use Rattle.snp_model.specs.declared.scenario.Role.TheVariants.{Cpu, Host, Firmwa
 use Rattle.snp_model.specs.declared.scenario.Scenario.{Scenario}
 use Rattle.snp_model.specs.State.{Contents, State, part_of, zero_words}
 use Rattle.snp_model.specs.Step.{event_of, after, line_at}
-use Rattle.snp_model.specs.Opening.{frames_in, opening, words_from}
-use Rattle.snp_model.specs.Verdicts.{is_large}
+use Rattle.snp_model.specs.Facts.{frames_in}
+use Rattle.snp_model.specs.Opening.{opening, words_from}
+use Rattle.snp_model.specs.Verdicts.{same_size}
 
 -- a page of it: 512 places, each with a number, or unknown
 abbrev pub Places : Type 0
@@ -42,11 +42,6 @@ IsHeld memory gpn = get memory gpn ≢ None
 -- the word at a place, where its page is held and the word is known
 abbrev pub known : Memory → ℕ → ℕ → Option ℕ
 known memory gpn index = unwrap_or (option_map (λ places. slice_index_or places index None) (get memory gpn)) None
-
--- whether two sizes are the same
-abbrev pub same_size : PageSize → PageSize → Bool
-same_size Small size = not (is_large size)
-same_size Large size = is_large size
 
 -- memory where the word at a place of a held page is known to be this number
 unfoldable pub with_known : ℕ → ℕ → ℕ → Memory → Memory

@@ -10,7 +10,7 @@ use Rattle.snp_model.specs.declared.scenario.Role.{Role}
 use Rattle.snp_model.specs.declared.scenario.Turn.{Turn}
 use Rattle.snp_model.specs.declared.item.Line.{Line}
 use Rattle.snp_model.specs.Attempts.{attempts_of}
-use Rattle.snp_model.specs.Lines.{◌>>=◌, ◌>>◌, parts_at, words_of, word, is_plain, is_row}
+use Rattle.snp_model.specs.Lines.{◌>>=◌, parts_at, words_of, word, is_plain, is_row}
 use Rattle.snp_model.specs.ItemLines.{item_words}
 use Rattle.snp_model.specs.ScenarioLines.{frames_of, has_no, before_orders, before_actors, before_words, before_pages, first_scenario, version_row, regions_row, guest_row, page_row, word_row, idle, cpu_row, tables_row, host_row, with_line, is_order_row, order_row}
 
@@ -27,7 +27,8 @@ unfoldable pub turns_count : List Turn → ℕ
 turns_count [] = 0
 turns_count (turn ∷ turns) = turn.count + turns_count turns
 
--- what is made so far: nothing before the line `snp 1`, then a scenario, which the line `end` closes
+-- what is made so far: nothing before the first line that isn't passed over, which says the version; then a scenario, which the
+-- line `end` closes
 pub data Made : Type 0 where
   nothing : Made
   reading : Scenario → Made
@@ -109,8 +110,8 @@ add_words c ws =
 -- what the words of a line make of what is made so far
 abbrev pub fit_words : Made → List (List ℕ) → Result Made Fault
 fit_words nothing ws = do
-  by_rule (version_row ws)
-  Ok (reading first_scenario)
+  version ← by_rule (version_row ws)
+  Ok (reading (first_scenario version))
 fit_words (reading c) ws = add_words c ws
 fit_words (closed c) ws = Err (refused After)
 

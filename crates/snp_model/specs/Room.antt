@@ -1,11 +1,10 @@
 -- How many events a state's actors can still make: at most 32 for each attempt (this project's own).
 use Rattle.std.specs.Prelude.{ℕ, ◌+◌, ◌-◌, ◌*◌, ◌<◌, ◌≤◌, List, [], ◌∷◌, All, length, drop}
-use Rattle.snp_model.specs.declared.event.Deed.{Deed}
 use Rattle.snp_model.specs.declared.item.Line.{Line}
 use Rattle.snp_model.specs.Attempts.{script_attempts}
+use Rattle.snp_model.specs.OpenAttempts.{IsWalking}
 use Rattle.snp_model.specs.State.{ActorPart, State}
 use Rattle.snp_model.specs.Step.{line_at}
-use Rattle.snp_model.specs.Walking.{guest_words, nested_words}
 
 -- of the lines from the one under way on, whose attempt has made some events
 unfoldable pub lines_room : List Line → ℕ → ℕ → ℕ
@@ -25,17 +24,12 @@ parts_room (part ∷ parts) = part_room part + parts_room parts
 unfoldable pub room_of : State → ℕ
 room_of m = parts_room m.actors
 
--- the deeds of an open attempt: it begins, reads at most four words of nested tables and then one of a guest table for each of at most five levels, and then at most four of nested tables
-pub record IsShort (deeds : List Deed) : Type 0 where
-  pub walked : length deeds ≤ 1 + 5 * length (guest_words deeds) + length (nested_words deeds)
-  pub few_tables : length (guest_words deeds) ≤ 5
-  pub few : length (nested_words deeds) ≤ 4
-
--- an actor's open attempt is short, and it is one of those that its line has
-pub record IsBounded (part : ActorPart) : Type 0 where
-  pub short : IsShort part.deeds
+-- an actor's open attempt has made what its item calls for, which is fewer than 32 deeds, and it is one of those that its line has
+pub record IsBounded (frames : ℕ) (part : ActorPart) : Type 0 where
+  pub walking : IsWalking frames part
+  pub short : length part.deeds < 32
   pub within : part.item < length part.script → part.attempt ≤ (line_at part.script part.item).retries
 
 -- so of each actor
 abbrev pub AreBounded : State → Type 0
-AreBounded m = All IsBounded m.actors
+AreBounded m = All (IsBounded m.frames) m.actors

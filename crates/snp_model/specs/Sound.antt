@@ -61,6 +61,8 @@ pub record IsTurn (turn : Turn) : Type 0 where
 
 -- a scenario
 pub record IsSound (c : Scenario) : Type 0 where
+  pub version_some : 1 ≤ c.version
+  pub version_most : c.version ≤ 2
   pub regions_some : 0 < c.regions
   pub regions_most : c.regions ≤ 16
   pub guests_most : length c.guests ≤ 8

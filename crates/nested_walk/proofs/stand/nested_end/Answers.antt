@@ -1,4 +1,4 @@
-use Rattle.std.proofs.Common.{◌≡◌, ℕ, ◌<◌, ap, ◌∙◌, arith}
+use Rattle.std.proofs.Common.{ℕ, ◌<◌, ap, ◌∙◌, arith}
 use Rattle.snp_model.specs.declared.walk.NestedEnd.TheVariants.{Read}
 use Rattle.nested_walk.proofs.EndLaws.{stand_more, stand_leaf, stand_fault, stand_last, not_last}
 use Rattle.nested_walk.proofs.stand.nested_end.Goals as goal
@@ -15,7 +15,7 @@ words-preserved c =
     record {
       low = omega arith;
       high = omega (arith, c.words.invariant.high);
-      inside = c.in-Read.ensures.inside;
+      inside = c.in-Read.ensures.inside.0;
       stands = stand_more c.args.path.now _ _ _ c.words.word-index _ _ c.args.words.now _ c.words-test.true c.words.invariant.stands c.in-Read.ensures.value;
     }
 

@@ -5,7 +5,7 @@ use Rattle.nested_walk.proofs.walk.NestedWalk.feed.Goals as goal
 
 pub invariant_of-result : goal.invariant_of-result
 invariant_of-result c =
-    standing_more c.self.inside.path c.self.inside.table c.self.inside.words c.self.inside.count c.args.word c.in-Read.frame _ c.self.invariant (sym c.in-Read.ensures.value) c.in-Read.ensures.inside
+    standing_more c.self.inside.path c.self.inside.table c.self.inside.words c.self.inside.count c.args.word c.in-Read.frame _ c.self.invariant (sym c.in-Read.ensures.value) c.in-Read.ensures.inside.0
 
 pub returns-in-Read-clause-answer : goal.returns-in-Read-clause-answer
 returns-in-Read-clause-answer c =
