@@ -111,6 +111,7 @@ fn accesses(rt: HostRuntime) -> Result<(), Fail> {
     for (entry, vmpl, private, op, want, word) in guest {
         assert!(rt; vmpl < 4);
         assert!(rt; entry.size == PageSize::Small);
+        assert!(rt; rmp.effective(9).size == PageSize::Small);
         memory.store(9, 3, 6);
         rmp.write_entry(9, entry);
         let outcome = access(&mut memory, &rmp, &place(vmpl, private), &op);
@@ -139,6 +140,7 @@ fn accesses(rt: HostRuntime) -> Result<(), Fail> {
     ];
     for (entry, op, want, word) in host {
         assert!(rt; entry.size == PageSize::Small);
+        assert!(rt; rmp.effective(9).size == PageSize::Small);
         memory.store(9, 3, 6);
         rmp.write_entry(9, entry);
         assert_eq!(rt;

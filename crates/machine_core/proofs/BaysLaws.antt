@@ -163,6 +163,11 @@ stored_facts stock new_stock frame index value bay memory stored =
 pub stored_locks : (stock new_stock : Stock) (frame index value : ℕ) (bay : Bay) (memory : List (List ℕ)) → IsStored stock new_stock frame index value bay memory → locks_of new_stock ≡ locks_of stock
 stored_locks stock new_stock frame index value bay memory stored = locks_stay stock new_stock (frame / 512) bay (with_memory bay memory) stored.there refl stored.stock_is
 
+-- the facts of a frame are its entry's
+pub facts_there : (bays : Bays) (frame : ℕ) (bay : Bay) → bays (frame / 512) ≡ Some bay → facts_of bays frame ≡ facts_at bay.rmp (frame % 512)
+unfolding facts_of
+facts_there bays frame bay there = ap (λ (p : Page). p.facts) (page_there bays frame bay there)
+
 -- a bay with another entry was put
 pub record IsWritten (stock new_stock : Stock) (frame : ℕ) (entry : RmpEntry) (bay new : Bay) : Type 0 where
   pub there : stock.bays (frame / 512) ≡ Some bay

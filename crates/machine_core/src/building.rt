@@ -1,5 +1,6 @@
-ghost use Rattle.std.specs.Prelude.{◌≡◌, ◌*◌, ◌^◌, ◌<◌, length, map, replicate, IfOk};
+ghost use Rattle.std.specs.Prelude.{◌≡◌, ℕ, ◌*◌, ◌^◌, ◌<◌, length, map, replicate, IfOk};
 ghost use Rattle.std.specs.List.{AllByRecursion};
+ghost use Rattle.snp_model.specs.declared.entry.PageSize.TheVariants.{Small};
 ghost use Rattle.snp_model.specs.Facts.{free_entry};
 ghost use Rattle.snp_model.specs.Opening.{opening_part, page_facts, facts_from, words_from};
 ghost use Rattle.snp_model.specs.Sound.{IsPage, IsWord};
@@ -57,10 +58,11 @@ pub fn free_parts(alloc: Global, regions: u32) -> Result<OwnParts, AllocError>
     })
 }
 
-/// Sets the entries of the guests' pages.
+/// Sets the entries of the guests' pages, where there is no page of 2 MB.
 #[tactic(auto, unfolding(snp_model::specs::Opening::facts_from))]
 pub fn set_pages(parts: &mut OwnParts, guests: &[GuestSpec], pages: &[PageSpec])
-    requires { AllByRecursion (IsPage (512 * length parts.old.bays.items) (length guests.now)) pages.now }
+    requires pages { AllByRecursion (IsPage (512 * length parts.old.bays.items) (length guests.now)) pages.now }
+    requires small { (f : ℕ) → (facts_of (own_bays parts.old.bays.items) f).size ≡ Small }
     ensures facts { facts_of (own_bays parts.new.bays.items) ≡ facts_from guests.now (facts_of (own_bays parts.old.bays.items)) pages.now }
     ensures words { words_of (own_bays parts.new.bays.items) ≡ words_of (own_bays parts.old.bays.items) }
     ensures locks { locks_of (own_stock parts.new.bays.items) ≡ locks_of (own_stock parts.old.bays.items) }

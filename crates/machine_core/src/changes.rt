@@ -57,9 +57,10 @@ pub fn set_word<P: Parts>(parts: &mut P, frame: u32, index: u16, value: u64)
         .store((frame % 512) as usize, index as usize, value);
 }
 
-/// Sets the entry of a 4 KB frame.
+/// Sets the entry of a 4 KB frame, which is in no page of 2 MB.
 pub fn set_entry<P: Parts>(parts: &mut P, frame: u32, entry: RmpEntry)
     requires has { HasFrame (P.stock parts.old) frame }
+    requires was_small { (facts_of (P.stock parts.old).bays frame).size ≡ Small }
     requires small { entry.size ≡ Small }
     ensures facts { facts_of (P.stock parts.new).bays ≡ with_entry frame entry (facts_of (P.stock parts.old).bays) }
     ensures words { words_of (P.stock parts.new).bays ≡ words_of (P.stock parts.old).bays }

@@ -1,6 +1,7 @@
-//! The entries of the reverse map table (RMP) of one region.
+//! The entries of the reverse map table (RMP) of one region, with their locks.
 #![tactic(auto)]
 
+mod locks;
 mod table;
 #[cfg(test)]
 mod tests;

@@ -1,9 +1,14 @@
 -- Each guest's private accesses are one legal history of a memory of its own, whatever the schedule is.
-use Rattle.std.proofs.Common.{◌≡◌, ◌≢◌, ℕ, zero, suc, ◌-◌, ◌<◌, ◌≤◌, true, List, [], ◌∷◌, length, map, get_or, refl, sym, ap, ◌∙◌, subst, arith}
+use Rattle.std.proofs.Common.{◌≡◌, ◌≢◌, ℕ, zero, suc, ◌-◌, ◌<◌, ◌≤◌, true, List, [], ◌∷◌, length, map, get_or, None, refl, sym, ap, ◌∙◌, subst, arith}
 use Rattle.std.specs.List.{AllByRecursion}
 use Rattle.std.proofs.lemmas.Bool.Decides.{nat_tests}
 use Rattle.snp_model.specs.declared.entry.PageSize.{PageSize}
 use Rattle.snp_model.specs.declared.entry.PageSize.TheVariants.{Small}
+use Rattle.snp_model.specs.declared.item.Item.{Item}
+use Rattle.snp_model.specs.declared.item.Item.TheVariants as items
+use Rattle.snp_model.specs.declared.item.Line.{Line}
+use Rattle.snp_model.specs.declared.item.SkipTest.{SkipTest}
+use Rattle.snp_model.specs.declared.item.SkipTest.TheVariants.{Good}
 use Rattle.snp_model.specs.declared.scenario.Actor.{Actor}
 use Rattle.snp_model.specs.declared.scenario.GuestSpec.{GuestSpec}
 use Rattle.snp_model.specs.declared.scenario.PageSpec.{PageSpec}
@@ -12,58 +17,69 @@ use Rattle.snp_model.specs.declared.scenario.Role.TheVariants.{Cpu, Host, Firmwa
 use Rattle.snp_model.specs.declared.scenario.Scenario.{Scenario}
 use Rattle.snp_model.specs.Locks.{in_range, view_of}
 use Rattle.snp_model.specs.State.{State, part_of, idle_part, zero_words}
-use Rattle.snp_model.specs.Step.{line_at, event_of, after}
-use Rattle.snp_model.specs.Opening.{frames_in, asid_of, words_from, opening, opening_part}
+use Rattle.snp_model.specs.Step.{idle_line, line_at, event_of, after}
+use Rattle.snp_model.specs.Facts.{frames_in}
+use Rattle.snp_model.specs.Opening.{asid_of, words_from, opening, opening_part}
 use Rattle.snp_model.specs.Run.{state_from, state_after, IsDefined}
-use Rattle.snp_model.specs.Bounds.{IsRole}
+use Rattle.snp_model.specs.Bounds.{IsRole, IsItemOf, IsLineOf}
 use Rattle.snp_model.specs.Sound.{Pairwise, IsSound, AsidsDiffer, IsPage, GpnsDiffer, IsActor}
 use Rattle.snp_model.specs.GuestMemory.{Memory, next_use, used, opening_memory, memory_from, memory_after, IsLegalFrom, IsLegal, AreLegal}
+use Rattle.snp_model.specs.Live.{Archive, vault_of}
 use Rattle.snp_model.specs.Holders.{Core}
+use Rattle.snp_model.proofs.CoreLaws.{AreFit, frames_core}
 use Rattle.snp_model.proofs.RunLaws.{after_keeps}
-use Rattle.snp_model.proofs.UseLaws.{AreWhole, RoleOwns, Fine, item_fine}
-use Rattle.snp_model.proofs.OpeningLaws.{IsApartFrom, RangesApart, opening_core, opening_whole}
+use Rattle.snp_model.proofs.UseLaws.{AreWhole, RoleOwns, IsProved, Fine, item_fine}
+use Rattle.snp_model.proofs.OpeningLaws.{IsApartFrom, RangesApart, opening_core, opening_whole, opening_fits, opening_dead}
+
+-- the items of a script are such as this is proved of
+abbrev AreProved : Role → List Line → Type 0
+AreProved role script = (place : ℕ) → IsProved role (line_at script place).item
 
 -- what a state keeps for a guest, beside the guest's memory
-pub record Keeps (guest asid : ℕ) (m : State) (memory : Memory) : Type 0 where
-  pub core : Core m.contents.pages asid memory
+pub record Keeps (guest asid : ℕ) (archive : Archive) (m : State) (memory : Memory) : Type 0 where
+  pub core : Core asid (vault_of guest m.contents archive) memory
   pub whole : AreWhole m.contents.pages
+  pub fits : AreFit m.contents.pages
   pub owns : (actor : ℕ) → RoleOwns guest asid m.guests (part_of m actor).role
+  pub known : (actor : ℕ) → AreProved (part_of m actor).role (part_of m actor).script
 
 -- an event of any actor
-step_fine : (guest asid : ℕ) (m : State) (memory : Memory) (actor : ℕ) → Keeps guest asid m memory
-    → Fine asid memory m.contents (after m actor).contents (next_use guest m actor)
+step_fine : (guest asid : ℕ) (archive : Archive) (m : State) (memory : Memory) (actor : ℕ) → Keeps guest asid archive m memory
+    → Fine guest asid archive memory m.contents (after m actor).contents (next_use guest m actor)
 unfolding after next_use event_of
-step_fine guest asid m memory actor keeps =
+step_fine guest asid archive m memory actor keeps =
     let part = part_of m actor in
-    (item_fine guest asid m.guests memory m.frames (view_of m) part part.role (line_at part.script part.item).item
-    (record { core = keeps.core; whole = keeps.whole }) (keeps.owns actor)).fine
+    (item_fine guest asid archive m.guests memory m.frames (view_of m) part part.role (line_at part.script part.item).item
+    (record { core = keeps.core; whole = keeps.whole; fits = keeps.fits }) (keeps.owns actor) (keeps.known actor part.item)).fine
 
 -- so the next state keeps the same
-step_keeps : (guest asid : ℕ) (m : State) (memory : Memory) (actor : ℕ) → Keeps guest asid m memory
-    → Keeps guest asid (after m actor) (used (next_use guest m actor) memory)
+step_keeps : (guest asid : ℕ) (archive : Archive) (m : State) (memory : Memory) (actor : ℕ) → Keeps guest asid archive m memory
+    → Keeps guest asid archive (after m actor) (used (next_use guest m actor) memory)
 unfolding after
-step_keeps guest asid m memory actor keeps =
-    let fine = step_fine guest asid m memory actor keeps in
+step_keeps guest asid archive m memory actor keeps =
+    let fine = step_fine guest asid archive m memory actor keeps in
     record {
       core = fine.core;
       whole = fine.whole;
+      fits = fine.fits;
       owns = λ other. subst (RoleOwns guest asid m.guests) (sym (after_keeps m actor other).role) (keeps.owns other);
+      known = λ other. let kept = after_keeps m actor other in rw (kept.role, kept.script) (keeps.known other);
     }
 
 -- so a run from a state on
-pub run_keeps : (guest asid : ℕ) (m : State) (memory : Memory) (s : List ℕ) → Keeps guest asid m memory
-    → Keeps guest asid (state_from m s) (memory_from guest m memory s)
+pub run_keeps : (guest asid : ℕ) (archive : Archive) (m : State) (memory : Memory) (s : List ℕ) → Keeps guest asid archive m memory
+    → Keeps guest asid archive (state_from m s) (memory_from guest m memory s)
 unfolding state_from memory_from
-run_keeps guest asid m memory [] keeps = keeps
-run_keeps guest asid m memory (a ∷ s) keeps =
-    run_keeps guest asid (after m a) (used (next_use guest m a) memory) s (step_keeps guest asid m memory a keeps)
+run_keeps guest asid archive m memory [] keeps = keeps
+run_keeps guest asid archive m memory (a ∷ s) keeps =
+    run_keeps guest asid archive (after m a) (used (next_use guest m a) memory) s (step_keeps guest asid archive m memory a keeps)
 
-pub run_legal : (guest asid : ℕ) (m : State) (memory : Memory) (s : List ℕ) → Keeps guest asid m memory → IsLegalFrom guest m memory s
+pub run_legal : (guest asid : ℕ) (archive : Archive) (m : State) (memory : Memory) (s : List ℕ) → Keeps guest asid archive m memory → IsLegalFrom guest m memory s
 unfolding IsLegalFrom
-run_legal guest asid m memory [] keeps = tt
-run_legal guest asid m memory (a ∷ s) keeps = (
-  (step_fine guest asid m memory a keeps).legal,
-  run_legal guest asid (after m a) (used (next_use guest m a) memory) s (step_keeps guest asid m memory a keeps),
+run_legal guest asid archive m memory [] keeps = tt
+run_legal guest asid archive m memory (a ∷ s) keeps = (
+  (step_fine guest asid archive m memory a keeps).legal,
+  run_legal guest asid archive (after m a) (used (next_use guest m a) memory) s (step_keeps guest asid archive m memory a keeps),
 )
 
 -- two guests have two ASIDs
@@ -129,26 +145,72 @@ actors_own c guest frames [] k sound some most all = tt
 actors_own c guest frames (actor ∷ actors) zero sound some most all = declared_owns c guest frames actor.role sound some most all.0.role
 actors_own c guest frames (actor ∷ actors) (suc k) sound some most all = actors_own c guest frames actors k sound some most all.1
 
-pub opening_keeps : (c : Scenario) (guest : ℕ) → IsSound c → 0 < guest → guest ≤ length c.guests
-    → Keeps guest (asid_of c.guests guest) (opening c) (opening_memory c guest)
-unfolding opening opening_memory
-opening_keeps c guest sound some most = record {
-  core = opening_core c.guests guest c.pages (words_from (λ _. zero_words) c.words)
-      (pages_apart c guest sound some most _ c.pages sound.pages) (ranges_apart _ (length c.guests) c.pages sound.pages sound.gpns_differ);
-  whole = opening_whole c.words;
-  owns = λ actor. actors_own c guest _ c.actors (actor - 1) sound some most sound.actors;
-}
+-- no scenario has an item of which it isn't proved
+sound_proved : (frames : ℕ) (role : Role) (item : Item) → IsItemOf frames role item → IsProved role item
+sound_proved frames (Cpu owner vmpl npt paging) (items.Access address op) is = tt
+sound_proved frames (Cpu owner vmpl npt paging) (items.Pvalidate address size validate) is = is
+sound_proved frames (Cpu owner vmpl npt paging) (items.Rmpadjust address size target mask vmsa) is = is
+sound_proved frames (Cpu owner vmpl npt paging) (items.Rmpupdate update) is = tt
+sound_proved frames (Cpu owner vmpl npt paging) (items.Psmash frame) is = tt
+sound_proved frames (Cpu owner vmpl npt paging) (items.Firmware command) is = tt
+sound_proved frames (Cpu owner vmpl npt paging) (items.Skip count test) is = tt
+sound_proved frames Host (items.Access address op) is = tt
+sound_proved frames Host (items.Pvalidate address size validate) is = tt
+sound_proved frames Host (items.Rmpadjust address size target mask vmsa) is = tt
+sound_proved frames Host (items.Rmpupdate update) is = is
+sound_proved frames Host (items.Psmash frame) is = is
+sound_proved frames Host (items.Firmware command) is = tt
+sound_proved frames Host (items.Skip count test) is = tt
+sound_proved frames Firmware (items.Access address op) is = tt
+sound_proved frames Firmware (items.Pvalidate address size validate) is = tt
+sound_proved frames Firmware (items.Rmpadjust address size target mask vmsa) is = tt
+sound_proved frames Firmware (items.Rmpupdate update) is = tt
+sound_proved frames Firmware (items.Psmash frame) is = tt
+sound_proved frames Firmware (items.Firmware command) is = tt
+sound_proved frames Firmware (items.Skip count test) is = tt
 
--- in each state of a run each page of a declared guest has at most one holder, with the words of the guest's memory
-pub state_keeps_core : (c : Scenario) (s : List ℕ) → IsSound c → (guest : ℕ) → 0 < guest → guest ≤ length c.guests
-    → Core (state_after c s).contents.pages (asid_of c.guests guest) (memory_after c s guest)
-state_keeps_core c s sound guest some most =
-    (run_keeps guest (asid_of c.guests guest) (opening c) (opening_memory c guest) s (opening_keeps c guest sound some most)).core
+skip_proved : (role : Role) (count : ℕ) (test : SkipTest) → IsProved role (items.Skip count test)
+skip_proved (Cpu owner vmpl npt paging) count test = tt
+skip_proved Host count test = tt
+skip_proved Firmware count test = tt
+
+script_proved : (frames : ℕ) (role : Role) (script : List Line) → AllByRecursion (IsLineOf frames role) script → AreProved role script
+unfolding idle_line
+script_proved frames role [] all place = skip_proved role 0 Good
+script_proved frames role (line ∷ lines) all zero = sound_proved frames role line.item all.0.item
+script_proved frames role (line ∷ lines) all (suc place) = script_proved frames role lines all.1 place
+
+actors_proved : (frames guests : ℕ) (actors : List Actor) (k : ℕ) → AllByRecursion (IsActor frames guests) actors
+    → AreProved (get_or (map opening_part actors) k idle_part).role (get_or (map opening_part actors) k idle_part).script
+unfolding idle_part
+actors_proved frames guests [] k all = script_proved frames Host [] tt
+actors_proved frames guests (actor ∷ actors) zero all = script_proved frames actor.role actor.script all.0.script
+actors_proved frames guests (actor ∷ actors) (suc k) all = actors_proved frames guests actors k all.1
+
+pub opening_keeps : (c : Scenario) (guest : ℕ) (archive : Archive) → IsSound c → 0 < guest → guest ≤ length c.guests
+    → Keeps guest (asid_of c.guests guest) archive (opening c) (opening_memory c guest)
+unfolding opening opening_memory
+opening_keeps c guest archive sound some most =
+    let words = words_from (λ _. zero_words) c.words in
+    record {
+      core = frames_core (asid_of c.guests guest) (vault_of guest (opening c).contents archive) _ (opening_dead c.guests guest c.pages words (asid_of c.guests guest) archive)
+          (opening_core c.guests guest c.pages words (pages_apart c guest sound some most _ c.pages sound.pages) (ranges_apart _ (length c.guests) c.pages sound.pages sound.gpns_differ));
+      whole = opening_whole c.words;
+      fits = opening_fits c.guests c.pages words;
+      owns = λ actor. actors_own c guest _ c.actors (actor - 1) sound some most sound.actors;
+      known = λ actor. actors_proved _ _ c.actors (actor - 1) sound.actors;
+    }
+
+-- in each state of a run each page of a declared guest has at most one holder, with the words of the guest's memory, whatever archive is taken: while nothing is sealed, no entry is live
+pub state_keeps_core : (c : Scenario) (s : List ℕ) (archive : Archive) → IsSound c → (guest : ℕ) → 0 < guest → guest ≤ length c.guests
+    → Core (asid_of c.guests guest) (vault_of guest (state_after c s).contents archive) (memory_after c s guest)
+state_keeps_core c s archive sound guest some most =
+    (run_keeps guest (asid_of c.guests guest) archive (opening c) (opening_memory c guest) s (opening_keeps c guest archive sound some most)).core
 
 -- and each declared guest's private accesses are one legal history of its memory
 pub guest_memory_legal : (c : Scenario) (s : List ℕ) → IsSound c → IsDefined c s → (guest : ℕ) → 0 < guest → guest ≤ length c.guests → IsLegal c s guest
 guest_memory_legal c s sound defined guest some most =
-    run_legal guest (asid_of c.guests guest) (opening c) (opening_memory c guest) s (opening_keeps c guest sound some most)
+    run_legal guest (asid_of c.guests guest) (λ _. None) (opening c) (opening_memory c guest) s (opening_keeps c guest (λ _. None) sound some most)
 
 pub guests_are_legal : (c : Scenario) (s : List ℕ) → IsSound c → IsDefined c s → AreLegal c s
 guests_are_legal c s sound defined guest some most = guest_memory_legal c s sound defined guest some most

@@ -1,13 +1,11 @@
 -- An event depends on nothing but what it touches, and changes nothing else.
-use Rattle.std.proofs.Common.{◌≡◌, ◌≢◌, ℕ, ◌/◌, Bool, true, false, not, cond, eqb, List, [], ◌∷◌, ◌++◌, Option, Some, None, refl, sym, ap, ◌∙◌, subst, arith}
-use Rattle.std.proofs.lemmas.Bool.{cond_both, eqb-true, true≢false}
-use Rattle.std.proofs.lemmas.Bool.Decides.{nat_tests}
+use Rattle.std.proofs.Common.{◌≡◌, ◌≢◌, ℕ, ◌/◌, true, eqb, List, Option, Some, None, refl, ap, ◌∙◌, subst}
+use Rattle.std.proofs.lemmas.Bool.{cond_both, eqb-true}
 use Rattle.snp_model.specs.declared.access.Verdict.{Verdict}
 use Rattle.snp_model.specs.declared.access.Verdict.TheVariants.{Pass, Hidden, Fault}
 use Rattle.snp_model.specs.declared.event.Deed.{Deed}
 use Rattle.snp_model.specs.declared.event.Deed.TheVariants as deeds
 use Rattle.snp_model.specs.declared.event.Outcome.{Outcome}
-use Rattle.snp_model.specs.declared.event.Outcome.TheVariants as outcomes
 use Rattle.snp_model.specs.declared.item.Item.{Item}
 use Rattle.snp_model.specs.declared.item.Item.TheVariants as items
 use Rattle.snp_model.specs.declared.item.Op.{Op}
@@ -17,35 +15,17 @@ use Rattle.snp_model.specs.declared.scenario.GuestSpec.{GuestSpec}
 use Rattle.snp_model.specs.declared.scenario.Role.{Role}
 use Rattle.snp_model.specs.declared.scenario.Role.TheVariants.{Cpu, Host, Firmware}
 use Rattle.snp_model.specs.declared.entry.RmpEntry.{RmpEntry}
-use Rattle.snp_model.specs.declared.entry.PageSize.{PageSize}
-use Rattle.snp_model.specs.declared.walk.Lookup.{Lookup}
-use Rattle.snp_model.specs.declared.walk.Need.{Need}
-use Rattle.snp_model.specs.declared.walk.Need.TheVariants as needs
 use Rattle.snp_model.specs.Accesses.{guest_verdict}
-use Rattle.snp_model.specs.GuestWalk.{levels_of, is_canonical}
-use Rattle.snp_model.specs.Walking.{Processor, lookup_of, index_of, need_after, fault_of}
+use Rattle.snp_model.specs.Walking.{Processor, lookup_of, index_of}
 use Rattle.snp_model.specs.Opening.{asid_of}
 use Rattle.snp_model.specs.Operations.{outcome_of, word_after}
-use Rattle.snp_model.specs.Verdicts.{private_verdict, host_verdict}
-use Rattle.snp_model.specs.State.{Page, Pages, Context, Contents, ActorPart, View, with_word, word_of}
-use Rattle.snp_model.specs.Moves.{Move, Arrival, quiet_move, unbuilt_move, misplaced_move, faulted_move, table_word, is_running, begin_move, walk_move, table_move, need_move, walked_move, table_place}
+use Rattle.snp_model.specs.Verdicts.{host_verdict}
+use Rattle.snp_model.specs.State.{Page, Pages, Contents, ActorPart, View, with_word, word_of}
+use Rattle.snp_model.specs.Moves.{Move}
 use Rattle.snp_model.specs.Step.{pages_after, access_move, data_move, data_place, host_access, skip_move, item_move, line_at, part_after, step_of}
-use Rattle.snp_model.specs.Touches.{Touched, nothing_touched, frame_touched, context_touched, need_touches, walk_touches, item_touches, touches, touches_frame, AgreeOn, AgreeBeside, SeeAlike, StepsAlike}
-
--- two moves are the same, and leave what is touched the same
-record MovesAlike (touched : Touched) (one other : Move) : Type 0 where
-  deed : one.deed ≡ other.deed
-  outcome : one.outcome ≡ other.outcome
-  contents : AgreeOn touched one.contents other.contents
-  standing : one.standing ≡ other.standing
-
--- a frame is in its own region
-own_frame : (frame : ℕ) → touches_frame (frame_touched frame) frame ≡ true
-own_frame frame = grind (arith, nat_tests)
-
--- a frame that isn't touched is another than one that is
-other_frame : (touched : Touched) (frame f : ℕ) → touches_frame touched frame ≡ true → touches_frame touched f ≡ false → frame ≢ f
-other_frame touched frame f is_touched apart same = true≢false (sym is_touched ∙ ap (touches_frame touched) same ∙ apart)
+use Rattle.snp_model.specs.Touches.{Touched, nothing_touched, frame_touched, walk_touches, item_touches, touches, touches_frame, AgreeOn, AgreeBeside, SeeAlike, StepsAlike}
+use Rattle.snp_model.proofs.InstructionLocality.{update_alike, smash_alike, validate_alike, adjust_alike, update_alone, smash_alone, validate_alone, adjust_alone}
+use Rattle.snp_model.proofs.MoveLocality.{MovesAlike, includes_itself, own_frame, other_frame, quiet_alike, misplaced_alike, unbuilt_alike, ArrivesAlike, walked_alike, MovesAlone, quiet_alone, ArrivesAlone, walked_alone}
 
 -- a page after a written word depends on that page before it alone
 word_alike : (frame index value : ℕ) (one other : Pages) (f : ℕ) → one f ≡ other f → with_word frame index value one f ≡ with_word frame index value other f
@@ -70,55 +50,9 @@ pages_beside (Swap value) frame index word pages f apart = word_beside frame ind
 pages_beside (Compare expected next) frame index word pages f apart = word_beside frame index (word_after (Compare expected next) word) pages f apart
 pages_beside (Xor value) frame index word pages f apart = word_beside frame index (word_after (Xor value) word) pages f apart
 
--- an event that changes nothing
-quiet_alike : (touched : Touched) (one other : Contents) (part : ActorPart) (deed : Deed) (outcome : Option Outcome)
-    → AgreeOn touched one other → MovesAlike touched (quiet_move one part deed outcome) (quiet_move other part deed outcome)
-quiet_alike touched one other part deed outcome same = record { deed = refl; outcome = refl; contents = same; standing = refl }
-
 skip_alike : (touched : Touched) (one other : Contents) (part : ActorPart) (count : ℕ) (test : SkipTest)
     → AgreeOn touched one other → MovesAlike touched (skip_move one part count test) (skip_move other part count test)
 skip_alike touched one other part count test same = quiet_alike touched one other part _ _ same
-
-unbuilt_alike : (touched : Touched) (one other : Contents) (part : ActorPart) → AgreeOn touched one other → MovesAlike touched (unbuilt_move one part) (unbuilt_move other part)
-unbuilt_alike touched one other part same = quiet_alike touched one other part _ _ same
-
-misplaced_alike : (touched : Touched) (one other : Contents) (part : ActorPart) → AgreeOn touched one other → MovesAlike touched (misplaced_move one part) (misplaced_move other part)
-misplaced_alike touched one other part same = quiet_alike touched one other part _ _ same
-
-faulted_alike : (touched : Touched) (one other : Contents) (part : ActorPart) → AgreeOn touched one other → MovesAlike touched (faulted_move one part) (faulted_move other part)
-faulted_alike touched one other part same = quiet_alike touched one other part _ _ same
-
--- moves that the same test chooses
-chosen_alike : (touched : Touched) (test : Bool) (one other one_else other_else : Move) → MovesAlike touched one other → MovesAlike touched one_else other_else
-    → MovesAlike touched (cond test one one_else) (cond test other other_else)
-chosen_alike touched true one other one_else other_else same same_else = same
-chosen_alike touched false one other one_else other_else same same_else = same_else
-
--- the beginning of a guest processor's item
-begin_alike : (touched : Touched) (one other : Contents) (part : ActorPart) (context : Context) (levels address : ℕ) (refusal : Option Outcome)
-    → AgreeOn touched one other → MovesAlike touched (begin_move one part context levels address refusal) (begin_move other part context levels address refusal)
-unfolding begin_move
-begin_alike touched one other part context levels address refusal same =
-    let quiet = λ (outcome : Option Outcome). quiet_alike touched one other part deeds.Begin outcome same in
-    chosen_alike touched (not (is_running context.state)) _ _ _ _ (quiet (Some outcomes.Offline))
-    (chosen_alike touched (not (is_canonical levels address)) _ _ _ _ (quiet (Some outcomes.Gp)) (quiet refusal))
-
-begins_alike : (one other : Contents) (part : ActorPart) (guest levels address : ℕ) (refusal : Option Outcome)
-    → AgreeOn (context_touched guest) one other
-    → MovesAlike (context_touched guest) (begin_move one part (one.contexts guest) levels address refusal) (begin_move other part (other.contexts guest) levels address refusal)
-begins_alike one other part guest levels address refusal same =
-    subst (λ (context : Context). MovesAlike (context_touched guest) (begin_move one part (one.contexts guest) levels address refusal) (begin_move other part context levels address refusal))
-    (same.contexts guest refl) (begin_alike (context_touched guest) one other part (one.contexts guest) levels address refusal same)
-
--- a word of a walk
-walk_alike : (touched : Touched) (frames : ℕ) (one other : Contents) (part : ActorPart) (cpu : Processor) (lookup : Lookup) (deed deed' : Deed) → deed ≡ deed'
-    → AgreeOn touched one other → MovesAlike touched (walk_move frames one part cpu lookup deed) (walk_move frames other part cpu lookup deed')
-walk_alike touched frames one other part cpu lookup deed deed' is same = record {
-  deed = is;
-  outcome = ap (λ (d : Deed). fault_of (need_after frames cpu lookup (part.deeds ++ d ∷ []))) is;
-  contents = same;
-  standing = refl;
-}
 
 -- an access, whatever its verdict
 access_alike : (touched : Touched) (one other : Contents) (part : ActorPart) (deed : Deed) (verdict : Verdict) (op : Op) (frame index : ℕ) → touches_frame touched frame ≡ true
@@ -148,22 +82,6 @@ checked_alike touched one other part deed check op frame index is_touched same =
     subst (λ (page : Page). MovesAlike touched (access_move one part deed (check (one.pages frame).facts) op frame index) (access_move other part deed (check page.facts) op frame index))
     (same.pages frame is_touched) (access_alike touched one other part deed _ op frame index is_touched same)
 
--- a word of a guest table, whatever the verdict
-table_alike : (touched : Touched) (frames : ℕ) (one other : Contents) (part : ActorPart) (cpu : Processor) (lookup : Lookup) (verdict : Verdict) (gpn index frame : ℕ) → touches_frame touched frame ≡ true
-    → AgreeOn touched one other → MovesAlike touched (table_move frames one part cpu lookup verdict gpn index frame) (table_move frames other part cpu lookup verdict gpn index frame)
-unfolding table_move
-table_alike touched frames one other part cpu lookup Pass gpn index frame is_touched same =
-    walk_alike touched frames one other part cpu lookup _ _ (ap (λ (page : Page). deeds.Table gpn index frame (Some (word_of page index))) (same.pages frame is_touched)) same
-table_alike touched frames one other part cpu lookup Hidden gpn index frame is_touched same = quiet_alike touched one other part _ _ same
-table_alike touched frames one other part cpu lookup (Fault outcome) gpn index frame is_touched same = quiet_alike touched one other part _ _ same
-
-table_checked_alike : (touched : Touched) (frames : ℕ) (one other : Contents) (part : ActorPart) (cpu : Processor) (lookup : Lookup) (check : RmpEntry → Verdict) (gpn index frame : ℕ) → touches_frame touched frame ≡ true
-    → AgreeOn touched one other
-    → MovesAlike touched (table_move frames one part cpu lookup (check (one.pages frame).facts) gpn index frame) (table_move frames other part cpu lookup (check (other.pages frame).facts) gpn index frame)
-table_checked_alike touched frames one other part cpu lookup check gpn index frame is_touched same =
-    subst (λ (page : Page). MovesAlike touched (table_move frames one part cpu lookup (check (one.pages frame).facts) gpn index frame) (table_move frames other part cpu lookup (check page.facts) gpn index frame))
-    (same.pages frame is_touched) (table_alike touched frames one other part cpu lookup _ gpn index frame is_touched same)
-
 -- a hypervisor's access
 host_alike : (one other : Contents) (part : ActorPart) (address : ℕ) (op : Op)
     → AgreeOn (frame_touched (address / 4096)) one other → MovesAlike (frame_touched (address / 4096)) (host_access one part address op) (host_access other part address op)
@@ -172,37 +90,12 @@ host_alike one other part address op same =
     let frame = address / 4096 in
     checked_alike (frame_touched frame) one other part (deeds.Host frame (index_of address)) (λ (facts : RmpEntry). host_verdict facts op) op frame (index_of address) (own_frame frame) same
 
--- what an item does at the frame that its walks have led to
-abbrev ArrivesAlike : Contents → Contents → Arrival → Arrival → Type 0
-ArrivesAlike one other arrives arrives' =
-    (gpn : ℕ) (private : Bool) (frame : ℕ) (size : PageSize) → AgreeOn (frame_touched frame) one other → MovesAlike (frame_touched frame) (arrives gpn private frame size) (arrives' gpn private frame size)
-
-data_alike : (guests : List GuestSpec) (one other : Contents) (part : ActorPart) (cpu : Processor) (address : ℕ) (op : Op)
-    → ArrivesAlike one other (data_move guests one part cpu address op) (data_move guests other part cpu address op)
-data_alike guests one other part cpu address op gpn private frame size same =
+-- an access at the frame that its walks have led to
+data_alike : (touched : Touched) (guests : List GuestSpec) (one other : Contents) (part : ActorPart) (cpu : Processor) (address : ℕ) (op : Op)
+    → AgreeOn touched one other → ArrivesAlike touched (data_move guests one part cpu address op) (data_move guests other part cpu address op)
+data_alike touched guests one other part cpu address op same gpn private frame size is_touched =
     let place = data_place (asid_of guests cpu.guest) cpu.vmpl address gpn private frame size in
-    checked_alike (frame_touched frame) one other part (deeds.Access gpn (index_of address) frame private) (λ (facts : RmpEntry). guest_verdict facts place op) op frame (index_of address) (own_frame frame) same
-
--- an item of a guest processor that walks, by what it needs
-need_alike : (frames : ℕ) (guests : List GuestSpec) (one other : Contents) (part : ActorPart) (cpu : Processor) (lookup : Lookup) (arrives arrives' : Arrival) (need : Need)
-    → ArrivesAlike one other arrives arrives' → AgreeOn (need_touches need) one other
-    → MovesAlike (need_touches need) (need_move frames guests one part cpu lookup arrives need) (need_move frames guests other part cpu lookup arrives' need)
-unfolding need_touches need_move
-need_alike frames guests one other part cpu lookup arrives arrives' (needs.Nested frame index) alike same =
-    walk_alike (frame_touched frame) frames one other part cpu lookup _ _ (ap (λ (page : Page). deeds.Nested frame index (table_word page index)) (same.pages frame (own_frame frame))) same
-need_alike frames guests one other part cpu lookup arrives arrives' (needs.Table gpn index frame size) alike same =
-    let place = table_place (asid_of guests cpu.guest) cpu.vmpl gpn index frame size in
-    table_checked_alike (frame_touched frame) frames one other part cpu lookup (λ (facts : RmpEntry). private_verdict facts place Load) gpn index frame (own_frame frame) same
-need_alike frames guests one other part cpu lookup arrives arrives' (needs.Data gpn private frame size) alike same = alike gpn private frame size same
-need_alike frames guests one other part cpu lookup arrives arrives' (needs.Fault outcome) alike same = faulted_alike nothing_touched one other part same
-
-walked_alike : (frames : ℕ) (guests : List GuestSpec) (one other : Contents) (part : ActorPart) (cpu : Processor) (lookup : Lookup) (refusal : Option Outcome) (arrives arrives' : Arrival) (made : List Deed)
-    → ArrivesAlike one other arrives arrives' → AgreeOn (walk_touches frames cpu lookup made) one other
-    → MovesAlike (walk_touches frames cpu lookup made) (walked_move frames guests one part cpu lookup refusal arrives made) (walked_move frames guests other part cpu lookup refusal arrives' made)
-unfolding walk_touches walked_move
-walked_alike frames guests one other part cpu lookup refusal arrives arrives' [] alike same = begins_alike one other part cpu.guest (levels_of cpu.paging) lookup.address refusal same
-walked_alike frames guests one other part cpu lookup refusal arrives arrives' (deed ∷ others) alike same =
-    need_alike frames guests one other part cpu lookup arrives arrives' (need_after frames cpu lookup (deed ∷ others)) alike same
+    checked_alike touched one other part (deeds.Access gpn (index_of address) frame private) (λ (facts : RmpEntry). guest_verdict facts place op) op frame (index_of address) is_touched same
 
 -- so each item's move
 item_alike : (frames : ℕ) (guests : List GuestSpec) (part : ActorPart) (role : Role) (item : Item) (one other : View) → SeeAlike (item_touches frames guests part role item) one other
@@ -210,9 +103,13 @@ item_alike : (frames : ℕ) (guests : List GuestSpec) (part : ActorPart) (role :
 unfolding item_touches item_move
 item_alike frames guests part (Cpu guest vmpl npt paging) (items.Access address op) one other same =
     let cpu : Processor = record { guest = guest; vmpl = vmpl; npt = npt; paging = paging } in
-    walked_alike frames guests one.contents other.contents part cpu (lookup_of address op) None _ _ part.deeds (data_alike guests one.contents other.contents part cpu address op) same.contents
-item_alike frames guests part (Cpu guest vmpl npt paging) (items.Pvalidate address size validate) one other same = unbuilt_alike nothing_touched one.contents other.contents part same.contents
-item_alike frames guests part (Cpu guest vmpl npt paging) (items.Rmpadjust address size target mask vmsa) one other same = unbuilt_alike nothing_touched one.contents other.contents part same.contents
+    let lookup = lookup_of address op in
+    let touched = walk_touches frames cpu lookup part.deeds in
+    walked_alike touched frames guests one.contents other.contents part cpu lookup None _ _ part.deeds (includes_itself touched) (data_alike touched guests one.contents other.contents part cpu address op same.contents) same.contents
+item_alike frames guests part (Cpu guest vmpl npt paging) (items.Pvalidate address size validate) one other same =
+    validate_alike frames guests one other part (record { guest = guest; vmpl = vmpl; npt = npt; paging = paging }) address size validate same
+item_alike frames guests part (Cpu guest vmpl npt paging) (items.Rmpadjust address size target mask vmsa) one other same =
+    adjust_alike frames guests one other part (record { guest = guest; vmpl = vmpl; npt = npt; paging = paging }) address size target mask vmsa same
 item_alike frames guests part (Cpu guest vmpl npt paging) (items.Rmpupdate update) one other same = misplaced_alike nothing_touched one.contents other.contents part same.contents
 item_alike frames guests part (Cpu guest vmpl npt paging) (items.Psmash frame) one other same = misplaced_alike nothing_touched one.contents other.contents part same.contents
 item_alike frames guests part (Cpu guest vmpl npt paging) (items.Firmware command) one other same = misplaced_alike nothing_touched one.contents other.contents part same.contents
@@ -220,8 +117,8 @@ item_alike frames guests part (Cpu guest vmpl npt paging) (items.Skip count test
 item_alike frames guests part Host (items.Access address op) one other same = host_alike one.contents other.contents part address op same.contents
 item_alike frames guests part Host (items.Pvalidate address size validate) one other same = misplaced_alike nothing_touched one.contents other.contents part same.contents
 item_alike frames guests part Host (items.Rmpadjust address size target mask vmsa) one other same = misplaced_alike nothing_touched one.contents other.contents part same.contents
-item_alike frames guests part Host (items.Rmpupdate update) one other same = unbuilt_alike nothing_touched one.contents other.contents part same.contents
-item_alike frames guests part Host (items.Psmash frame) one other same = unbuilt_alike nothing_touched one.contents other.contents part same.contents
+item_alike frames guests part Host (items.Rmpupdate update) one other same = update_alike frames one other part update part.standing.locks same
+item_alike frames guests part Host (items.Psmash frame) one other same = smash_alike frames one other part frame part.standing.locks same
 item_alike frames guests part Host (items.Firmware command) one other same = misplaced_alike nothing_touched one.contents other.contents part same.contents
 item_alike frames guests part Host (items.Skip count test) one other same = skip_alike nothing_touched one.contents other.contents part count test same.contents
 item_alike frames guests part Firmware (items.Access address op) one other same = misplaced_alike nothing_touched one.contents other.contents part same.contents
@@ -253,30 +150,6 @@ step_local frames guests part one other same =
       contents = alike.contents;
     }
 
--- a move leaves all else as it was
-record MovesAlone (touched : Touched) (old : Contents) (move : Move) : Type 0 where
-  contents : AgreeBeside touched old move.contents
-
--- an event that changes nothing
-quiet_alone : (touched : Touched) (old : Contents) (part : ActorPart) (deed : Deed) (outcome : Option Outcome) → MovesAlone touched old (quiet_move old part deed outcome)
-quiet_alone touched old part deed outcome = record { contents = record { pages = λ f apart. refl; contexts = λ guest apart. refl } }
-
--- the beginning of a guest processor's item
-begin_alone : (touched : Touched) (old : Contents) (part : ActorPart) (context : Context) (levels address : ℕ) (refusal : Option Outcome) → MovesAlone touched old (begin_move old part context levels address refusal)
-unfolding begin_move
-begin_alone touched old part context levels address refusal =
-    let quiet = λ (outcome : Option Outcome). quiet_alone touched old part deeds.Begin outcome in
-    cond_both (not (is_running context.state)) _ _ (MovesAlone touched old) (λ _. quiet (Some outcomes.Offline))
-    (λ _. cond_both (not (is_canonical levels address)) _ _ (MovesAlone touched old) (λ _. quiet (Some outcomes.Gp)) (λ _. quiet refusal))
-
--- a word of a guest table, whatever the verdict
-table_alone : (touched : Touched) (frames : ℕ) (old : Contents) (part : ActorPart) (cpu : Processor) (lookup : Lookup) (verdict : Verdict) (gpn index frame : ℕ)
-    → MovesAlone touched old (table_move frames old part cpu lookup verdict gpn index frame)
-unfolding table_move
-table_alone touched frames old part cpu lookup Pass gpn index frame = quiet_alone touched old part _ _
-table_alone touched frames old part cpu lookup Hidden gpn index frame = quiet_alone touched old part _ _
-table_alone touched frames old part cpu lookup (Fault outcome) gpn index frame = quiet_alone touched old part _ _
-
 -- an access, whatever its verdict
 access_alone : (touched : Touched) (old : Contents) (part : ActorPart) (deed : Deed) (verdict : Verdict) (op : Op) (frame index : ℕ) → touches_frame touched frame ≡ true
     → MovesAlone touched old (access_move old part deed verdict op frame index)
@@ -297,30 +170,11 @@ host_alone old part address op =
     let frame = address / 4096 in
     access_alone (frame_touched frame) old part (deeds.Host frame (index_of address)) (host_verdict (old.pages frame).facts op) op frame (index_of address) (own_frame frame)
 
--- what an item does at the frame that its walks have led to
-abbrev ArrivesAlone : Contents → Arrival → Type 0
-ArrivesAlone old arrives = (gpn : ℕ) (private : Bool) (frame : ℕ) (size : PageSize) → MovesAlone (frame_touched frame) old (arrives gpn private frame size)
-
-data_alone : (guests : List GuestSpec) (old : Contents) (part : ActorPart) (cpu : Processor) (address : ℕ) (op : Op) → ArrivesAlone old (data_move guests old part cpu address op)
-data_alone guests old part cpu address op gpn private frame size =
+-- an access at the frame that its walks have led to
+data_alone : (touched : Touched) (guests : List GuestSpec) (old : Contents) (part : ActorPart) (cpu : Processor) (address : ℕ) (op : Op) → ArrivesAlone touched old (data_move guests old part cpu address op)
+data_alone touched guests old part cpu address op gpn private frame size is_touched =
     let place = data_place (asid_of guests cpu.guest) cpu.vmpl address gpn private frame size in
-    access_alone (frame_touched frame) old part (deeds.Access gpn (index_of address) frame private) (guest_verdict (old.pages frame).facts place op) op frame (index_of address) (own_frame frame)
-
--- an item of a guest processor that walks, by what it needs
-need_alone : (frames : ℕ) (guests : List GuestSpec) (old : Contents) (part : ActorPart) (cpu : Processor) (lookup : Lookup) (arrives : Arrival) (need : Need)
-    → ArrivesAlone old arrives → MovesAlone (need_touches need) old (need_move frames guests old part cpu lookup arrives need)
-unfolding need_touches need_move
-need_alone frames guests old part cpu lookup arrives (needs.Nested frame index) alone = quiet_alone (frame_touched frame) old part _ _
-need_alone frames guests old part cpu lookup arrives (needs.Table gpn index frame size) alone = table_alone (frame_touched frame) frames old part cpu lookup _ gpn index frame
-need_alone frames guests old part cpu lookup arrives (needs.Data gpn private frame size) alone = alone gpn private frame size
-need_alone frames guests old part cpu lookup arrives (needs.Fault outcome) alone = quiet_alone nothing_touched old part _ _
-
-walked_alone : (frames : ℕ) (guests : List GuestSpec) (old : Contents) (part : ActorPart) (cpu : Processor) (lookup : Lookup) (refusal : Option Outcome) (arrives : Arrival) (made : List Deed)
-    → ArrivesAlone old arrives → MovesAlone (walk_touches frames cpu lookup made) old (walked_move frames guests old part cpu lookup refusal arrives made)
-unfolding walk_touches walked_move
-walked_alone frames guests old part cpu lookup refusal arrives [] alone = begin_alone (context_touched cpu.guest) old part (old.contexts cpu.guest) (levels_of cpu.paging) lookup.address refusal
-walked_alone frames guests old part cpu lookup refusal arrives (deed ∷ others) alone =
-    need_alone frames guests old part cpu lookup arrives (need_after frames cpu lookup (deed ∷ others)) alone
+    access_alone touched old part (deeds.Access gpn (index_of address) frame private) (guest_verdict (old.pages frame).facts place op) op frame (index_of address) is_touched
 
 -- so each item's move
 item_alone : (frames : ℕ) (guests : List GuestSpec) (part : ActorPart) (role : Role) (item : Item) (view : View)
@@ -328,9 +182,13 @@ item_alone : (frames : ℕ) (guests : List GuestSpec) (part : ActorPart) (role :
 unfolding item_touches item_move
 item_alone frames guests part (Cpu guest vmpl npt paging) (items.Access address op) view =
     let cpu : Processor = record { guest = guest; vmpl = vmpl; npt = npt; paging = paging } in
-    walked_alone frames guests view.contents part cpu (lookup_of address op) None _ part.deeds (data_alone guests view.contents part cpu address op)
-item_alone frames guests part (Cpu guest vmpl npt paging) (items.Pvalidate address size validate) view = quiet_alone nothing_touched view.contents part _ _
-item_alone frames guests part (Cpu guest vmpl npt paging) (items.Rmpadjust address size target mask vmsa) view = quiet_alone nothing_touched view.contents part _ _
+    let lookup = lookup_of address op in
+    let touched = walk_touches frames cpu lookup part.deeds in
+    walked_alone touched frames guests view.contents part cpu lookup None _ part.deeds (includes_itself touched) (data_alone touched guests view.contents part cpu address op)
+item_alone frames guests part (Cpu guest vmpl npt paging) (items.Pvalidate address size validate) view =
+    validate_alone frames guests view part (record { guest = guest; vmpl = vmpl; npt = npt; paging = paging }) address size validate
+item_alone frames guests part (Cpu guest vmpl npt paging) (items.Rmpadjust address size target mask vmsa) view =
+    adjust_alone frames guests view part (record { guest = guest; vmpl = vmpl; npt = npt; paging = paging }) address size target mask vmsa
 item_alone frames guests part (Cpu guest vmpl npt paging) (items.Rmpupdate update) view = quiet_alone nothing_touched view.contents part _ _
 item_alone frames guests part (Cpu guest vmpl npt paging) (items.Psmash frame) view = quiet_alone nothing_touched view.contents part _ _
 item_alone frames guests part (Cpu guest vmpl npt paging) (items.Firmware command) view = quiet_alone nothing_touched view.contents part _ _
@@ -338,8 +196,8 @@ item_alone frames guests part (Cpu guest vmpl npt paging) (items.Skip count test
 item_alone frames guests part Host (items.Access address op) view = host_alone view.contents part address op
 item_alone frames guests part Host (items.Pvalidate address size validate) view = quiet_alone nothing_touched view.contents part _ _
 item_alone frames guests part Host (items.Rmpadjust address size target mask vmsa) view = quiet_alone nothing_touched view.contents part _ _
-item_alone frames guests part Host (items.Rmpupdate update) view = quiet_alone nothing_touched view.contents part _ _
-item_alone frames guests part Host (items.Psmash frame) view = quiet_alone nothing_touched view.contents part _ _
+item_alone frames guests part Host (items.Rmpupdate update) view = update_alone frames view part update part.standing.locks
+item_alone frames guests part Host (items.Psmash frame) view = smash_alone frames view part frame part.standing.locks
 item_alone frames guests part Host (items.Firmware command) view = quiet_alone nothing_touched view.contents part _ _
 item_alone frames guests part Host (items.Skip count test) view = quiet_alone nothing_touched view.contents part _ _
 item_alone frames guests part Firmware (items.Access address op) view = quiet_alone nothing_touched view.contents part _ _

@@ -1,13 +1,13 @@
 -- What a guest's memory holds and knows after a change.
 use Rattle.std.proofs.Common.{◌≡◌, ◌≢◌, ◌⊎◌, ℕ, zero, suc, ◌+◌, ◌-◌, ◌<◌, ◌≤◌, Bool, true, false, cond, eqb, List, [], ◌∷◌, length, map, get_or, set, Option, Some, None, option_map, unwrap_or, nat_cmp, is_eq, refl, sym, ap, ◌∙◌, ⊎_elim, inl, inr, arith}
-use Rattle.std.specs.FinMap.{empty, get, insert, get-insert, get-empty}
+use Rattle.std.specs.FinMap.{empty, get, insert, remove, get-insert, get-remove, get-empty}
 use Rattle.std.specs.Cmp.{nat_cmp_total}
 use Rattle.std.proofs.lemmas.Bool.{cond_both, cases_eq, cases_lt, eqb-true, eq-eqb, ne_eqb, cond-true, cond-false}
 use Rattle.std.proofs.lemmas.Option.{none-some}
 use Rattle.std.proofs.lemmas.Bool.Decides.{nat_tests}
 use Rattle.std.proofs.lemmas.List.{get_or-set_same, get_or-set_other, set_past, get_or_past}
 use Rattle.snp_model.specs.Locks.{in_range}
-use Rattle.snp_model.specs.GuestMemory.{Places, Memory, IsHeld, known, with_known, with_frames}
+use Rattle.snp_model.specs.GuestMemory.{Places, Memory, IsHeld, known, with_known, with_pages, without_pages, with_frames}
 
 -- a page set, by look-ups
 same_test : (q k : ℕ) → is_eq (nat_cmp q k) ≡ eqb q k
@@ -155,3 +155,28 @@ pub known_before : (words : ℕ → List ℕ) (n frame gpn : ℕ) (memory : Memo
     → known (with_frames words frame gpn n memory) q j ≡ Some word → known memory q j ≡ Some word
 known_before words n frame gpn memory q j word outside e =
     sym (ap (λ (page : Option Places). place_in page j) (with_frames_keeps words n frame gpn memory q outside)) ∙ e
+
+get_removed : (memory : Memory) (k q : ℕ) → get (remove memory k) q ≡ cond (eqb q k) None (get memory q)
+get_removed memory k q = get-remove nat_cmp_total memory k q ∙ ap (λ (b : Bool). cond b None (get memory q)) (same_test q k)
+
+-- one page more at the front of a range
+range_first : {A : Type 0} (base count q : ℕ) (inside kept : A) → cond (in_range (base + 1) count q) inside (cond (eqb q base) inside kept) ≡ cond (in_range base (suc count) q) inside kept
+range_first base count q inside kept = grind (arith, nat_tests)
+
+-- what is held after a range of pages is set, page by page
+pub get_with_pages : (gpn count : ℕ) (places : Places) (memory : Memory) (q : ℕ) → get (with_pages gpn count places memory) q ≡ cond (in_range gpn count q) (Some places) (get memory q)
+unfolding with_pages
+get_with_pages gpn zero places memory q = grind (arith, nat_tests)
+get_with_pages gpn (suc count) places memory q =
+    get_with_pages (gpn + 1) count places (insert memory gpn places) q
+    ∙ ap (cond (in_range (gpn + 1) count q) (Some places)) (get_inserted memory gpn places q)
+    ∙ range_first gpn count q (Some places) (get memory q)
+
+-- and after a range of pages is removed
+pub get_without_pages : (gpn count : ℕ) (memory : Memory) (q : ℕ) → get (without_pages gpn count memory) q ≡ cond (in_range gpn count q) None (get memory q)
+unfolding without_pages
+get_without_pages gpn zero memory q = grind (arith, nat_tests)
+get_without_pages gpn (suc count) memory q =
+    get_without_pages (gpn + 1) count (remove memory gpn) q
+    ∙ ap (cond (in_range (gpn + 1) count q) None) (get_removed memory gpn q)
+    ∙ range_first gpn count q None (get memory q)

@@ -1,11 +1,14 @@
 -- At the opening each page of a guest has one holder, with the words of the guest's memory.
-use Rattle.std.proofs.Common.{◌≡◌, ◌≢◌, ◌⊎◌, ℕ, zero, suc, ◌+◌, ◌-◌, true, false, ◌&&◌, eqb, List, [], ◌∷◌, length, map, get_or, slice_get, Some, None, refl, sym, ap, ◌∙◌, ⊎_elim, inl, inr, arith}
+use Rattle.std.proofs.Common.{◌≡◌, ◌≢◌, ◌⊎◌, ℕ, zero, suc, ◌+◌, ◌-◌, true, false, ◌&&◌, eqb, List, [], ◌∷◌, length, map, get_or, slice_get, Option, Some, None, refl, sym, ap, ◌∙◌, ⊎_elim, inl, inr, arith}
 use Rattle.std.specs.FinMap.{get, empty}
 use Rattle.std.specs.List.{AllByRecursion}
 use Rattle.std.proofs.lemmas.Bool.{cond_both, cases_Bool, eqb-true, eqb-false, and_parts, and_cases, true≢false}
 use Rattle.std.proofs.lemmas.Bool.Decides.{nat_tests}
 use Rattle.std.proofs.lemmas.List.{length-set}
+use Rattle.snp_model.specs.declared.entry.Kind.{Kind}
+use Rattle.snp_model.specs.declared.entry.Kind.TheVariants as kinds
 use Rattle.snp_model.specs.declared.entry.RmpEntry.{RmpEntry}
+use Rattle.snp_model.specs.declared.firmware.MetaEntry.{MetaEntry}
 use Rattle.snp_model.specs.declared.scenario.GuestSpec.{GuestSpec}
 use Rattle.snp_model.specs.declared.scenario.PageSpec.{PageSpec}
 use Rattle.snp_model.specs.declared.scenario.WordSpec.{WordSpec}
@@ -13,10 +16,12 @@ use Rattle.snp_model.specs.Facts.{free_entry}
 use Rattle.snp_model.specs.Locks.{in_range}
 use Rattle.snp_model.specs.State.{Pages, zero_words}
 use Rattle.snp_model.specs.Sound.{Pairwise}
-use Rattle.snp_model.specs.Opening.{frames_in, asid_of, page_facts, with_page, facts_from, with_word_spec, words_from, opening_context}
+use Rattle.snp_model.specs.Facts.{frames_in}
+use Rattle.snp_model.specs.Opening.{asid_of, page_facts, with_page, facts_from, with_word_spec, words_from, opening_context}
 use Rattle.snp_model.specs.GuestMemory.{Memory, IsHeld, known, with_frames, with_line, with_lines}
-use Rattle.snp_model.specs.Holders.{Holder, InFrame, IsHeldAs, Holds, held_words, Core}
-use Rattle.snp_model.proofs.CoreLaws.{core_shrinks}
+use Rattle.snp_model.specs.Live.{Archive, InEntry, InRoot, Under}
+use Rattle.snp_model.specs.Holders.{IsHeldAs}
+use Rattle.snp_model.proofs.CoreLaws.{FrameCore, IsDead, AreFit}
 use Rattle.snp_model.proofs.MemoryLaws.{with_frames_holds, with_frames_keeps, with_frames_known, known_before, empty_known}
 
 -- pages with these facts and words
@@ -81,72 +86,64 @@ none_new guests guest page facts q f apart none =
     (and_cases page.valid (eqb page.guest guest) none)))
     (λ h. h)
 
-holds_before : (guests : List GuestSpec) (guest : ℕ) (page : PageSpec) (facts : ℕ → RmpEntry) (words : ℕ → List ℕ) → IsApartFrom guests guest page → (page.valid && eqb page.guest guest) ≡ false
-    → (q : ℕ) (x : Holder) → Holds (pages_with (with_page guests page facts) words) (asid_of guests guest) q x → Holds (pages_with facts words) (asid_of guests guest) q x
-holds_before guests guest page facts words apart none q (InFrame f) h = none_new guests guest page facts q f apart none h
-
-same_words : (old new : ℕ → RmpEntry) (words : ℕ → List ℕ) (x : Holder) (index : ℕ)
-    → get_or (held_words (pages_with new words) x) index 0 ≡ get_or (held_words (pages_with old words) x) index 0
-same_words old new words (InFrame f) index = refl
-
 -- a valid page line of the guest
 outside_held : (page : PageSpec) (guest q : ℕ) (memory : Memory) → page.guest ≡ guest → IsLacking guest memory page → IsHeld memory q → in_range page.gpn (frames_in page.size) q ≡ false
 outside_held page guest q memory mine lacking held =
     ⊎_elim (λ (inside : in_range page.gpn (frames_in page.size) q ≡ true). absurd (held (lacking.lacks q mine inside))) (λ outside. outside) (cases_Bool (in_range page.gpn (frames_in page.size) q))
 
 new_unique : (guests : List GuestSpec) (guest : ℕ) (page : PageSpec) (facts : ℕ → RmpEntry) (words : ℕ → List ℕ) (memory : Memory)
-    → page.guest ≡ guest → IsLacking guest memory page → Core (pages_with facts words) (asid_of guests guest) memory
-    → (q : ℕ) (x y : Holder) → Holds (pages_with (with_page guests page facts) words) (asid_of guests guest) q x → Holds (pages_with (with_page guests page facts) words) (asid_of guests guest) q y → x ≡ y
-new_unique guests guest page facts words memory mine lacking core q (InFrame f) (InFrame g) hx hy =
+    → page.guest ≡ guest → IsLacking guest memory page → FrameCore (pages_with facts words) (asid_of guests guest) memory
+    → (q f g : ℕ) → IsHeldAs (with_page guests page facts f) (asid_of guests guest) q → IsHeldAs (with_page guests page facts g) (asid_of guests guest) q → f ≡ g
+new_unique guests guest page facts words memory mine lacking core q f g hx hy =
     let asid = asid_of guests guest in
-    let fresh = λ (k l : ℕ) (a : IsNewAt page q k) (b : IsHeldAs (facts l) asid q). core.held q (InFrame l) b (lacking.lacks q mine a.inside) in
+    let fresh = λ (k l : ℕ) (a : IsNewAt page q k) (b : IsHeldAs (facts l) asid q). core.held q l b (lacking.lacks q mine a.inside) in
     ⊎_elim
     (λ (a : IsNewAt page q f).
-    ⊎_elim (λ (b : IsNewAt page q g). ap InFrame (a.frame_is ∙ sym b.frame_is)) (λ (b : IsHeldAs (facts g) asid q). absurd (fresh f g a b)) (new_or_before guests page facts asid q g hy))
+    ⊎_elim (λ (b : IsNewAt page q g). a.frame_is ∙ sym b.frame_is) (λ (b : IsHeldAs (facts g) asid q). absurd (fresh f g a b)) (new_or_before guests page facts asid q g hy))
     (λ (a : IsHeldAs (facts f) asid q).
-    ⊎_elim (λ (b : IsNewAt page q g). absurd (fresh g f b a)) (λ (b : IsHeldAs (facts g) asid q). core.unique q (InFrame f) (InFrame g) a b) (new_or_before guests page facts asid q g hy))
+    ⊎_elim (λ (b : IsNewAt page q g). absurd (fresh g f b a)) (λ (b : IsHeldAs (facts g) asid q). core.unique q f g a b) (new_or_before guests page facts asid q g hy))
     (new_or_before guests page facts asid q f hx)
 
 new_agree : (guests : List GuestSpec) (guest : ℕ) (page : PageSpec) (facts : ℕ → RmpEntry) (words : ℕ → List ℕ) (memory : Memory)
-    → page.guest ≡ guest → IsLacking guest memory page → Core (pages_with facts words) (asid_of guests guest) memory
-    → (q : ℕ) (x : Holder) (index word : ℕ) → Holds (pages_with (with_page guests page facts) words) (asid_of guests guest) q x
+    → page.guest ≡ guest → IsLacking guest memory page → FrameCore (pages_with facts words) (asid_of guests guest) memory
+    → (q f index word : ℕ) → IsHeldAs (with_page guests page facts f) (asid_of guests guest) q
     → known (with_frames words page.frame page.gpn (frames_in page.size) memory) q index ≡ Some word
-    → get_or (held_words (pages_with (with_page guests page facts) words) x) index 0 ≡ word
-new_agree guests guest page facts words memory mine lacking core q (InFrame f) index word hx k =
+    → get_or (words f) index 0 ≡ word
+new_agree guests guest page facts words memory mine lacking core q f index word hx k =
     let asid = asid_of guests guest in
     let n = frames_in page.size in
     ⊎_elim
     (λ (a : IsNewAt page q f).
     ap (λ (g : ℕ). get_or (words g) index 0) a.frame_is ∙ with_frames_known words n page.frame page.gpn memory q index word a.inside k)
     (λ (a : IsHeldAs (facts f) asid q).
-    let outside = outside_held page guest q memory mine lacking (core.held q (InFrame f) a) in
-    core.agree q (InFrame f) index word a (known_before words n page.frame page.gpn memory q index word outside k))
+    let outside = outside_held page guest q memory mine lacking (core.held q f a) in
+    core.agree q f index word a (known_before words n page.frame page.gpn memory q index word outside k))
     (new_or_before guests page facts asid q f hx)
 
 new_held : (guests : List GuestSpec) (guest : ℕ) (page : PageSpec) (facts : ℕ → RmpEntry) (words : ℕ → List ℕ) (memory : Memory)
-    → page.guest ≡ guest → IsLacking guest memory page → Core (pages_with facts words) (asid_of guests guest) memory
-    → (q : ℕ) (x : Holder) → Holds (pages_with (with_page guests page facts) words) (asid_of guests guest) q x
+    → page.guest ≡ guest → IsLacking guest memory page → FrameCore (pages_with facts words) (asid_of guests guest) memory
+    → (q f : ℕ) → IsHeldAs (with_page guests page facts f) (asid_of guests guest) q
     → IsHeld (with_frames words page.frame page.gpn (frames_in page.size) memory) q
-new_held guests guest page facts words memory mine lacking core q (InFrame f) hx =
+new_held guests guest page facts words memory mine lacking core q f hx =
     let asid = asid_of guests guest in
     let n = frames_in page.size in
     ⊎_elim
     (λ (a : IsNewAt page q f). with_frames_holds words n page.frame page.gpn memory q a.inside)
     (λ (a : IsHeldAs (facts f) asid q).
-    let held = core.held q (InFrame f) a in
+    let held = core.held q f a in
     let outside = outside_held page guest q memory mine lacking held in
     λ none. held (sym (with_frames_keeps words n page.frame page.gpn memory q outside) ∙ none))
     (new_or_before guests page facts asid q f hx)
 
 -- one more page line
 line_core : (guests : List GuestSpec) (guest : ℕ) (page : PageSpec) (facts : ℕ → RmpEntry) (words : ℕ → List ℕ) (memory : Memory)
-    → IsApartFrom guests guest page → IsLacking guest memory page → Core (pages_with facts words) (asid_of guests guest) memory
-    → Core (pages_with (with_page guests page facts) words) (asid_of guests guest) (with_line guest words page memory)
+    → IsApartFrom guests guest page → IsLacking guest memory page → FrameCore (pages_with facts words) (asid_of guests guest) memory
+    → FrameCore (pages_with (with_page guests page facts) words) (asid_of guests guest) (with_line guest words page memory)
 unfolding with_line
 line_core guests guest page facts words memory apart lacking core =
     let new = pages_with (with_page guests page facts) words in
     let asid = asid_of guests guest in
-    cond_both (page.valid && eqb page.guest guest) _ _ (Core new asid)
+    cond_both (page.valid && eqb page.guest guest) _ _ (FrameCore new asid)
     (λ gives.
     let mine = eqb-true page.guest guest (and_parts page.valid (eqb page.guest guest) gives).1 in
     record {
@@ -154,8 +151,13 @@ line_core guests guest page facts words memory apart lacking core =
       held = new_held guests guest page facts words memory mine lacking core;
       agree = new_agree guests guest page facts words memory mine lacking core;
     })
-    (λ none. core_shrinks (pages_with facts words) new asid memory (holds_before guests guest page facts words apart none)
-    (λ q x index h. same_words facts (with_page guests page facts) words x index) core)
+    (λ none.
+    let before = λ (q f : ℕ). none_new guests guest page facts q f apart none in
+    record {
+      unique = λ q f g hx hy. core.unique q f g (before q f hx) (before q g hy);
+      held = λ q f hx. core.held q f (before q f hx);
+      agree = λ q f index word hx k. core.agree q f index word (before q f hx) k;
+    })
 
 -- the page lines after it still find nothing held
 still_lacking : (guest : ℕ) (words : ℕ → List ℕ) (page other : PageSpec) (memory : Memory) → RangesApart page other → IsLacking guest memory other → IsLacking guest (with_line guest words page memory) other
@@ -182,8 +184,8 @@ still_lacking_all guest words page (other ∷ others) memory apart lacking =
 -- all page lines
 lines_core : (guests : List GuestSpec) (guest : ℕ) (lines : List PageSpec) (facts : ℕ → RmpEntry) (words : ℕ → List ℕ) (memory : Memory)
     → AllByRecursion (IsApartFrom guests guest) lines → Pairwise RangesApart lines → AllByRecursion (IsLacking guest memory) lines
-    → Core (pages_with facts words) (asid_of guests guest) memory
-    → Core (pages_with (facts_from guests facts lines) words) (asid_of guests guest) (with_lines guest words lines memory)
+    → FrameCore (pages_with facts words) (asid_of guests guest) memory
+    → FrameCore (pages_with (facts_from guests facts lines) words) (asid_of guests guest) (with_lines guest words lines memory)
 unfolding facts_from with_lines
 lines_core guests guest [] facts words memory apart ranges lacking core = core
 lines_core guests guest (page ∷ pages) facts words memory apart ranges lacking core =
@@ -196,14 +198,11 @@ free_holds : (asid gpn : ℕ) → IsHeldAs free_entry asid gpn → ⊥
 unfolding free_entry
 free_holds asid gpn h = true≢false (sym h.assigned)
 
-none_holds : (words : ℕ → List ℕ) (asid gpn : ℕ) (x : Holder) → Holds (pages_with (λ _. free_entry) words) asid gpn x → ⊥
-none_holds words asid gpn (InFrame f) h = free_holds asid gpn h
-
-free_core : (words : ℕ → List ℕ) (asid : ℕ) (memory : Memory) → Core (pages_with (λ _. free_entry) words) asid memory
+free_core : (words : ℕ → List ℕ) (asid : ℕ) (memory : Memory) → FrameCore (pages_with (λ _. free_entry) words) asid memory
 free_core words asid memory = record {
-  unique = λ gpn x y hx hy. absurd (none_holds words asid gpn x hx);
-  held = λ gpn x h. absurd (none_holds words asid gpn x h);
-  agree = λ gpn x index word h k. absurd (none_holds words asid gpn x h);
+  unique = λ gpn f g hx hy. absurd (free_holds asid gpn hx);
+  held = λ gpn f h. absurd (free_holds asid gpn h);
+  agree = λ gpn f index word h k. absurd (free_holds asid gpn h);
 }
 
 none_lacking : (guest : ℕ) (lines : List PageSpec) → AllByRecursion (IsLacking guest empty) lines
@@ -212,9 +211,45 @@ none_lacking guest (page ∷ pages) = (record { lacks = λ q mine inside. empty_
 
 pub opening_core : (guests : List GuestSpec) (guest : ℕ) (lines : List PageSpec) (words : ℕ → List ℕ)
     → AllByRecursion (IsApartFrom guests guest) lines → Pairwise RangesApart lines
-    → Core (pages_with (facts_from guests (λ _. free_entry) lines) words) (asid_of guests guest) (with_lines guest words lines empty)
+    → FrameCore (pages_with (facts_from guests (λ _. free_entry) lines) words) (asid_of guests guest) (with_lines guest words lines empty)
 opening_core guests guest lines words apart ranges =
     lines_core guests guest lines (λ _. free_entry) words empty apart ranges (none_lacking guest lines) (free_core words (asid_of guests guest) empty)
+
+-- no frame is used by the firmware
+facts_plain : (guests : List GuestSpec) (lines : List PageSpec) (facts : ℕ → RmpEntry) → ((f : ℕ) → (facts f).kind ≡ kinds.Plain) → (f : ℕ) → (facts_from guests facts lines f).kind ≡ kinds.Plain
+unfolding facts_from page_facts
+facts_plain guests [] facts plain f = plain f
+facts_plain guests (page ∷ pages) facts plain f =
+    facts_plain guests pages (with_page guests page facts) (λ g. page_or_before guests page facts g (λ (found : RmpEntry). found.kind ≡ kinds.Plain) (λ _. refl) (plain g)) f
+
+free_plain : free_entry.kind ≡ kinds.Plain
+unfolding free_entry
+free_plain = refl
+
+opening_plain : (guests : List GuestSpec) (lines : List PageSpec) (f : ℕ) → (facts_from guests (λ _. free_entry) lines f).kind ≡ kinds.Plain
+opening_plain guests lines f = facts_plain guests lines (λ _. free_entry) (λ _. free_plain) f
+
+pub opening_fits : (guests : List GuestSpec) (lines : List PageSpec) (words : ℕ → List ℕ) → AreFit (pages_with (facts_from guests (λ _. free_entry) lines) words)
+opening_fits guests lines words f =
+    record { assigned = λ other. absurd (other (opening_plain guests lines f)); immutable = λ other. absurd (other (opening_plain guests lines f)) }
+
+-- and no entry is live
+no_root : (spec : Option GuestSpec) → (opening_context spec).root ≡ None
+unfolding opening_context
+no_root None = refl
+no_root (Some spec) = refl
+
+some_none : (entry : MetaEntry) (root : Option MetaEntry) → root ≡ Some entry → root ≡ None → ⊥
+some_none entry root a b = cc
+
+plain_metadata : (kind : Kind) → kind ≡ kinds.Metadata → kind ≡ kinds.Plain → ⊥
+plain_metadata kind a b = cc
+
+pub opening_dead : (guests : List GuestSpec) (guest : ℕ) (lines : List PageSpec) (words : ℕ → List ℕ) (asid : ℕ) (archive : Archive)
+    → IsDead asid (record { pages = pages_with (facts_from guests (λ _. free_entry) lines) words; context = opening_context (slice_get guests (guest - 1)); archive = archive })
+opening_dead guests guest lines words asid archive (InEntry f number) entry live = plain_metadata _ live.metadata (opening_plain guests lines f)
+opening_dead guests guest lines words asid archive InRoot entry live = some_none entry _ live (no_root (slice_get guests (guest - 1)))
+opening_dead guests guest lines words asid archive (Under s number) entry live = opening_dead guests guest lines words asid archive s live.0 live.1
 
 -- every frame has its 512 words
 zero_length : length zero_words ≡ 512

@@ -41,7 +41,7 @@ step_ready frames guests part view ready has =
       role = subst (IsRole frames (length guests)) (sym keeps.role) ready.role;
       script = script_kept frames part.role _ part.script _ keeps.role keeps.script ready.script;
       bounded = step_bounded frames guests part view ready.bounded has;
-      unlocked = step_unlocked frames guests part view ready.unlocked;
+      unlocked = step_unlocked frames guests part view (ready_line frames guests part ready has).item ready.unlocked;
     }
 
 pub after_ready : (m : State) (actor : ℕ) → AreReady m → IsUnfinished m actor → AreReady (after m actor)

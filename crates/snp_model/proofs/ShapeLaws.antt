@@ -22,7 +22,9 @@ use Rattle.snp_model.specs.declared.walk.NestedEnd.{NestedEnd}
 use Rattle.snp_model.specs.declared.walk.NestedEnd.TheVariants as ends
 use Rattle.snp_model.specs.GuestWalk.{is_private_leaf, gpn_below, guest_fault, after_guest_word, guest_walk_from, first_guest_read, guest_end}
 use Rattle.snp_model.specs.NestedWalk.{after_word, walk_from, walk_fault, frame_below, has_bit, first_read, nested_end}
-use Rattle.snp_model.specs.OpenAttempts.{CallsFor, AreCalledFor, IsWalk, IsAttempt}
+use Rattle.snp_model.specs.OpenAttempts.{CallsFor, AreCalledFor, IsWalk, IsLockingWalk, IsLocking, IsAttempt}
+use Rattle.snp_model.specs.InstructionStep.{page_lookup}
+use Rattle.snp_model.specs.State.{PageLock}
 use Rattle.snp_model.specs.Walking.{Processor, lookup_of, counting, guest_words, nested_words_after, nested_words, guest_path, guest_stands, table_path, data_path, table_need, data_need, walk_need}
 
 -- a walk that reads on has read fewer words than it has levels
@@ -247,40 +249,53 @@ shaped_walk frames cpu lookup [] is = shaped_none
 shaped_walk frames cpu lookup (deeds.Begin ∷ others) is = shaped_calls frames cpu lookup (deeds.Begin ∷ []) others shaped_begun is.1
 shaped_walk frames cpu lookup (deed ∷ others) is = absurd is
 
--- an attempt of any item
-shaped_empty : (made : List Deed) → made ≡ [] → IsShaped made
-shaped_empty made none = subst IsShaped (sym none) shaped_none
-
-shaped_attempt : (frames : ℕ) (role : Role) (item : Item) (made : List Deed) → IsAttempt frames role item made → IsShaped made
-unfolding IsAttempt
-shaped_attempt frames (Cpu guest vmpl npt paging) (items.Access address op) made is =
-    shaped_walk frames (record { guest = guest; vmpl = vmpl; npt = npt; paging = paging }) (lookup_of address op) made is
-shaped_attempt frames (Cpu guest vmpl npt paging) (items.Pvalidate address size validate) made is = shaped_empty made is
-shaped_attempt frames (Cpu guest vmpl npt paging) (items.Rmpadjust address size target mask vmsa) made is = shaped_empty made is
-shaped_attempt frames (Cpu guest vmpl npt paging) (items.Rmpupdate update) made is = shaped_empty made is
-shaped_attempt frames (Cpu guest vmpl npt paging) (items.Psmash frame) made is = shaped_empty made is
-shaped_attempt frames (Cpu guest vmpl npt paging) (items.Firmware command) made is = shaped_empty made is
-shaped_attempt frames (Cpu guest vmpl npt paging) (items.Skip count test) made is = shaped_empty made is
-shaped_attempt frames Host (items.Access address op) made is = shaped_empty made is
-shaped_attempt frames Host (items.Pvalidate address size validate) made is = shaped_empty made is
-shaped_attempt frames Host (items.Rmpadjust address size target mask vmsa) made is = shaped_empty made is
-shaped_attempt frames Host (items.Rmpupdate update) made is = shaped_empty made is
-shaped_attempt frames Host (items.Psmash frame) made is = shaped_empty made is
-shaped_attempt frames Host (items.Firmware command) made is = shaped_empty made is
-shaped_attempt frames Host (items.Skip count test) made is = shaped_empty made is
-shaped_attempt frames Firmware (items.Access address op) made is = shaped_empty made is
-shaped_attempt frames Firmware (items.Pvalidate address size validate) made is = shaped_empty made is
-shaped_attempt frames Firmware (items.Rmpadjust address size target mask vmsa) made is = shaped_empty made is
-shaped_attempt frames Firmware (items.Rmpupdate update) made is = shaped_empty made is
-shaped_attempt frames Firmware (items.Psmash frame) made is = shaped_empty made is
-shaped_attempt frames Firmware (items.Firmware command) made is = shaped_empty made is
-shaped_attempt frames Firmware (items.Skip count test) made is = shaped_empty made is
-
--- so an open attempt has fewer deeds than an array of 32 holds
-pub attempt_short : (frames : ℕ) (role : Role) (item : Item) (made : List Deed) → IsAttempt frames role item made → length made < 32
-attempt_short frames role item made is =
-    let shaped = shaped_attempt frames role item made is in
+-- so a walk has at most 30 deeds
+walk_few : (frames : ℕ) (cpu : Processor) (lookup : Lookup) (made : List Deed) → IsWalk frames cpu lookup made → length made ≤ 30
+walk_few frames cpu lookup made is =
+    let shaped = shaped_walk frames cpu lookup made is in
     let walked = shaped.walked in
     let few_tables = shaped.few_tables in
     let few = shaped.few in
     omega arith
+
+-- and one more with its lock
+locking_few : (frames : ℕ) (cpu : Processor) (lookup : Lookup) (locks : List PageLock) (made : List Deed) → IsLockingWalk frames cpu lookup locks made → length made < 32
+locking_few frames cpu lookup [] made is = let few = walk_few frames cpu lookup made is in omega arith
+locking_few frames cpu lookup (lock ∷ others) made is =
+    let walked = walk_few frames cpu lookup is.0.walked is.0.walk in
+    let more = ap length is.0.then_locked ∙ length_push is.0.walked (deeds.Lock lock.frame) in
+    omega arith
+
+-- an attempt that has made nothing, or has taken its lock alone
+none_few : (made : List Deed) → made ≡ [] → length made < 32
+none_few made none = let count = ap length none in omega arith
+
+lock_few : (locks : List PageLock) (made : List Deed) → IsLocking locks made → length made < 32
+lock_few [] made is = none_few made is
+lock_few (lock ∷ others) made is = let count = ap length is.0 in omega arith
+
+-- so an open attempt has fewer deeds than an array of 32 holds
+pub attempt_short : (frames : ℕ) (role : Role) (item : Item) (locks : List PageLock) (made : List Deed) → IsAttempt frames role item locks made → length made < 32
+unfolding IsAttempt
+attempt_short frames (Cpu guest vmpl npt paging) (items.Access address op) locks made is =
+    let few = walk_few frames (record { guest = guest; vmpl = vmpl; npt = npt; paging = paging }) (lookup_of address op) made is in omega arith
+attempt_short frames (Cpu guest vmpl npt paging) (items.Pvalidate address size validate) locks made is = locking_few frames (record { guest = guest; vmpl = vmpl; npt = npt; paging = paging }) (page_lookup address) locks made is
+attempt_short frames (Cpu guest vmpl npt paging) (items.Rmpadjust address size target mask vmsa) locks made is = locking_few frames (record { guest = guest; vmpl = vmpl; npt = npt; paging = paging }) (page_lookup address) locks made is
+attempt_short frames (Cpu guest vmpl npt paging) (items.Rmpupdate update) locks made is = none_few made is
+attempt_short frames (Cpu guest vmpl npt paging) (items.Psmash frame) locks made is = none_few made is
+attempt_short frames (Cpu guest vmpl npt paging) (items.Firmware command) locks made is = none_few made is
+attempt_short frames (Cpu guest vmpl npt paging) (items.Skip count test) locks made is = none_few made is
+attempt_short frames Host (items.Access address op) locks made is = none_few made is
+attempt_short frames Host (items.Pvalidate address size validate) locks made is = none_few made is
+attempt_short frames Host (items.Rmpadjust address size target mask vmsa) locks made is = none_few made is
+attempt_short frames Host (items.Rmpupdate update) locks made is = lock_few locks made is
+attempt_short frames Host (items.Psmash frame) locks made is = lock_few locks made is
+attempt_short frames Host (items.Firmware command) locks made is = none_few made is
+attempt_short frames Host (items.Skip count test) locks made is = none_few made is
+attempt_short frames Firmware (items.Access address op) locks made is = none_few made is
+attempt_short frames Firmware (items.Pvalidate address size validate) locks made is = none_few made is
+attempt_short frames Firmware (items.Rmpadjust address size target mask vmsa) locks made is = none_few made is
+attempt_short frames Firmware (items.Rmpupdate update) locks made is = none_few made is
+attempt_short frames Firmware (items.Psmash frame) locks made is = none_few made is
+attempt_short frames Firmware (items.Firmware command) locks made is = none_few made is
+attempt_short frames Firmware (items.Skip count test) locks made is = none_few made is

@@ -1,4 +1,4 @@
--- No event takes a lock yet, so an open attempt never has one, and no frame and no context is locked.
+-- No event of an item that a scenario can have takes a lock yet, so an open attempt never has one, and no frame and no context is locked.
 use Rattle.std.proofs.Common.{◌≡◌, ℕ, suc, ◌+◌, Bool, not, List, [], ◌∷◌, All, Option, Some, None, refl, ◌∙◌, arith}
 use Rattle.std.proofs.lemmas.Bool.{cond_both}
 use Rattle.snp_model.specs.declared.access.Verdict.{Verdict}
@@ -15,6 +15,7 @@ use Rattle.snp_model.specs.declared.scenario.Role.TheVariants.{Cpu, Host, Firmwa
 use Rattle.snp_model.specs.declared.walk.Lookup.{Lookup}
 use Rattle.snp_model.specs.declared.walk.Need.{Need}
 use Rattle.snp_model.specs.declared.walk.Need.TheVariants as needs
+use Rattle.snp_model.specs.Bounds.{IsItemOf}
 use Rattle.snp_model.specs.GuestWalk.{levels_of, is_canonical}
 use Rattle.snp_model.specs.Locks.{holder_from, context_holder_from}
 use Rattle.snp_model.specs.Moves.{Move, Arrival, is_running, begin_move, table_move, need_move, walked_move}
@@ -66,31 +67,31 @@ walked_standing frames guests contents part cpu lookup refusal arrives [] stands
 walked_standing frames guests contents part cpu lookup refusal arrives (deed ∷ others) stands = need_standing frames guests contents part cpu lookup arrives _ stands
 
 -- so each item's move
-move_standing : (frames : ℕ) (guests : List GuestSpec) (view : View) (part : ActorPart) (role : Role) (item : Item) → KeepsStanding part (item_move frames guests view part role item)
+move_standing : (frames : ℕ) (guests : List GuestSpec) (view : View) (part : ActorPart) (role : Role) (item : Item) → IsItemOf frames role item → KeepsStanding part (item_move frames guests view part role item)
 unfolding item_move host_access
-move_standing frames guests view part (Cpu guest vmpl npt paging) (items.Access address op) =
+move_standing frames guests view part (Cpu guest vmpl npt paging) (items.Access address op) is =
     let cpu : Processor = record { guest = guest; vmpl = vmpl; npt = npt; paging = paging } in
     walked_standing frames guests view.contents part cpu (lookup_of address op) None _ part.deeds (data_standing guests view.contents part cpu address op)
-move_standing frames guests view part (Cpu guest vmpl npt paging) (items.Pvalidate address size validate) = record { same = refl }
-move_standing frames guests view part (Cpu guest vmpl npt paging) (items.Rmpadjust address size target mask vmsa) = record { same = refl }
-move_standing frames guests view part (Cpu guest vmpl npt paging) (items.Rmpupdate update) = record { same = refl }
-move_standing frames guests view part (Cpu guest vmpl npt paging) (items.Psmash frame) = record { same = refl }
-move_standing frames guests view part (Cpu guest vmpl npt paging) (items.Firmware command) = record { same = refl }
-move_standing frames guests view part (Cpu guest vmpl npt paging) (items.Skip count test) = record { same = refl }
-move_standing frames guests view part Host (items.Access address op) = access_standing view.contents part _ _ op _ _
-move_standing frames guests view part Host (items.Pvalidate address size validate) = record { same = refl }
-move_standing frames guests view part Host (items.Rmpadjust address size target mask vmsa) = record { same = refl }
-move_standing frames guests view part Host (items.Rmpupdate update) = record { same = refl }
-move_standing frames guests view part Host (items.Psmash frame) = record { same = refl }
-move_standing frames guests view part Host (items.Firmware command) = record { same = refl }
-move_standing frames guests view part Host (items.Skip count test) = record { same = refl }
-move_standing frames guests view part Firmware (items.Access address op) = record { same = refl }
-move_standing frames guests view part Firmware (items.Pvalidate address size validate) = record { same = refl }
-move_standing frames guests view part Firmware (items.Rmpadjust address size target mask vmsa) = record { same = refl }
-move_standing frames guests view part Firmware (items.Rmpupdate update) = record { same = refl }
-move_standing frames guests view part Firmware (items.Psmash frame) = record { same = refl }
-move_standing frames guests view part Firmware (items.Firmware command) = record { same = refl }
-move_standing frames guests view part Firmware (items.Skip count test) = record { same = refl }
+move_standing frames guests view part (Cpu guest vmpl npt paging) (items.Pvalidate address size validate) is = absurd is
+move_standing frames guests view part (Cpu guest vmpl npt paging) (items.Rmpadjust address size target mask vmsa) is = absurd is
+move_standing frames guests view part (Cpu guest vmpl npt paging) (items.Rmpupdate update) is = record { same = refl }
+move_standing frames guests view part (Cpu guest vmpl npt paging) (items.Psmash frame) is = record { same = refl }
+move_standing frames guests view part (Cpu guest vmpl npt paging) (items.Firmware command) is = record { same = refl }
+move_standing frames guests view part (Cpu guest vmpl npt paging) (items.Skip count test) is = record { same = refl }
+move_standing frames guests view part Host (items.Access address op) is = access_standing view.contents part _ _ op _ _
+move_standing frames guests view part Host (items.Pvalidate address size validate) is = record { same = refl }
+move_standing frames guests view part Host (items.Rmpadjust address size target mask vmsa) is = record { same = refl }
+move_standing frames guests view part Host (items.Rmpupdate update) is = absurd is
+move_standing frames guests view part Host (items.Psmash frame) is = absurd is
+move_standing frames guests view part Host (items.Firmware command) is = record { same = refl }
+move_standing frames guests view part Host (items.Skip count test) is = record { same = refl }
+move_standing frames guests view part Firmware (items.Access address op) is = record { same = refl }
+move_standing frames guests view part Firmware (items.Pvalidate address size validate) is = record { same = refl }
+move_standing frames guests view part Firmware (items.Rmpadjust address size target mask vmsa) is = record { same = refl }
+move_standing frames guests view part Firmware (items.Rmpupdate update) is = record { same = refl }
+move_standing frames guests view part Firmware (items.Psmash frame) is = record { same = refl }
+move_standing frames guests view part Firmware (items.Firmware command) is = record { same = refl }
+move_standing frames guests view part Firmware (items.Skip count test) is = record { same = refl }
 
 part_unlocked : (part : ActorPart) (move : Move) (outcome : Option Outcome) → move.standing ≡ nothing_taken → (part_after part move outcome).standing ≡ nothing_taken
 unfolding part_after
@@ -98,10 +99,10 @@ part_unlocked part move None none = none
 part_unlocked part move (Some outcome) none = refl
 
 -- an open attempt that has taken nothing takes nothing
-pub step_unlocked : (frames : ℕ) (guests : List GuestSpec) (part : ActorPart) (view : View) → part.standing ≡ nothing_taken → (step_of frames guests part view).part.standing ≡ nothing_taken
-step_unlocked frames guests part view none =
+pub step_unlocked : (frames : ℕ) (guests : List GuestSpec) (part : ActorPart) (view : View) → IsItemOf frames part.role (line_at part.script part.item).item → part.standing ≡ nothing_taken → (step_of frames guests part view).part.standing ≡ nothing_taken
+step_unlocked frames guests part view is none =
     let move = item_move frames guests view part part.role (line_at part.script part.item).item in
-    part_unlocked part move move.outcome ((move_standing frames guests view part part.role (line_at part.script part.item).item).same ∙ none)
+    part_unlocked part move move.outcome ((move_standing frames guests view part part.role (line_at part.script part.item).item is).same ∙ none)
 
 -- where no attempt has taken anything, nothing is locked
 pub none_holds_frame : (first : ℕ) (parts : List ActorPart) (frame : ℕ) → All (λ part. part.standing ≡ nothing_taken) parts → holder_from first parts frame ≡ None

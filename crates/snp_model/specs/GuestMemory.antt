@@ -1,12 +1,14 @@
--- A guest's private memory as the guest may rely on it: what its own events find there and leave there. No rule here but the opening knows a frame, an entry of the RMP or a page table. This project's own.
-use Rattle.std.specs.Prelude.{◌≡◌, ℕ, zero, suc, ◌+◌, ◌<◌, ◌≤◌, ◌==◌, Bool, true, ◌&&◌, ◌≢◌, bit_xor, if◌then◌else◌, List, [], ◌∷◌, length, map, slice_index_or, slice_set, Option, Some, None, unwrap_or}
-use Rattle.std.specs.FinMap.{FinMap, empty, get, insert}
+-- A guest's private memory as the guest may rely on it: what its own events find there and leave there, and what was launched into it. No rule here but those of the opening and of the launch knows a frame; none knows an entry of the RMP or a page table. This project's own.
+use Rattle.std.specs.Prelude.{◌≡◌, ℕ, zero, suc, ◌+◌, ◌<◌, ◌≤◌, ◌==◌, Bool, true, not, ◌&&◌, ◌||◌, ◌≢◌, bit_xor, if◌then◌else◌, List, [], ◌∷◌, length, map, replicate, slice_index_or, slice_set, Option, Some, None, unwrap_or}
+use Rattle.std.specs.FinMap.{FinMap, empty, get, insert, remove}
 use Rattle.std.specs.Option.{option_map}
 use Rattle.std.specs.Ordering.{nat_cmp}
+use Rattle.snp_model.specs.declared.command.Command.TheVariants as commands
+use Rattle.snp_model.specs.declared.entry.PageSize.{PageSize}
 use Rattle.snp_model.specs.declared.event.Deed.{Deed}
 use Rattle.snp_model.specs.declared.event.Deed.TheVariants as deeds
 use Rattle.snp_model.specs.declared.event.Outcome.{Outcome}
-use Rattle.snp_model.specs.declared.event.Outcome.TheVariants.{Loaded, Stored, Swapped, Compared}
+use Rattle.snp_model.specs.declared.event.Outcome.TheVariants as outcomes
 use Rattle.snp_model.specs.declared.item.Item.{Item}
 use Rattle.snp_model.specs.declared.item.Item.TheVariants as items
 use Rattle.snp_model.specs.declared.item.Op.{Op}
@@ -17,11 +19,17 @@ use Rattle.snp_model.specs.declared.scenario.Role.TheVariants.{Cpu, Host, Firmwa
 use Rattle.snp_model.specs.declared.scenario.Scenario.{Scenario}
 use Rattle.snp_model.specs.State.{Contents, State, part_of, zero_words}
 use Rattle.snp_model.specs.Step.{event_of, after, line_at}
-use Rattle.snp_model.specs.Opening.{frames_in, opening, words_from}
+use Rattle.snp_model.specs.Facts.{frames_in}
+use Rattle.snp_model.specs.Opening.{opening, words_from}
+use Rattle.snp_model.specs.Verdicts.{same_size}
 
 -- a page of it: 512 places, each with a number, or unknown
 abbrev pub Places : Type 0
 Places = List (Option ℕ)
+
+-- a page of which no word is known
+unfoldable pub unknown_places : Places
+unknown_places = replicate 512 None
 
 -- a guest's memory: the pages that it holds, by guest page number
 abbrev pub Memory : Type 0
@@ -47,24 +55,37 @@ pub data Use : Type 0 where
   Writes : (gpn index value : ℕ) → Use
   Exchanges : (gpn index found value : ℕ) → Use
   Compares : (gpn index found : ℕ) (written : Bool) (expected next : ℕ) → Use
+  Accepts : (gpn count : ℕ) → Use  -- pages whose words are unknown
+  Rescinds : (gpn count : ℕ) → Use
+  Launches : (gpn : ℕ) (words : List ℕ) → Use
 
 -- what an access that passed does with a word, by its outcome and its operation
 unfoldable pub use_of_word : Outcome → Op → ℕ → ℕ → Use
-use_of_word (Loaded found) Load gpn index = Reads gpn index found
-use_of_word Stored (Store value) gpn index = Writes gpn index value
-use_of_word (Swapped found) (Swap value) gpn index = Exchanges gpn index found value
-use_of_word (Swapped found) (Xor value) gpn index = Exchanges gpn index found (bit_xor found value)
-use_of_word (Compared found written) (Compare expected next) gpn index = Compares gpn index found written expected next
+use_of_word (outcomes.Loaded found) Load gpn index = Reads gpn index found
+use_of_word outcomes.Stored (Store value) gpn index = Writes gpn index value
+use_of_word (outcomes.Swapped found) (Swap value) gpn index = Exchanges gpn index found value
+use_of_word (outcomes.Swapped found) (Xor value) gpn index = Exchanges gpn index found (bit_xor found value)
+use_of_word (outcomes.Compared found written) (Compare expected next) gpn index = Compares gpn index found written expected next
 use_of_word outcome op gpn index = Untouched
 
--- what an event of a guest's processor does, by its deed, its item and its outcome: a guest table is read where the RMP lets it, a private access reads and writes where it passed, and every other event does nothing
+-- what a PVALIDATE does that has ended with a carry flag, by the page and the size that its commit shows and its operands: nothing where Validated was as asked
+unfoldable pub use_of_validation : ℕ → PageSize → PageSize → Bool → Bool → Use
+use_of_validation gpn size asked validate carry =
+    if carry || not (same_size size asked) then Untouched
+    else if validate then Accepts gpn (frames_in size)
+    else Rescinds gpn (frames_in size)
+
+-- what an event of a guest's processor does, by its deed, its item and its outcome: a guest table is read where the RMP lets it, a private access reads and writes where it passed, PVALIDATE accepts and rescinds pages, and every other event does nothing
 unfoldable pub use_of : Deed → Item → Option Outcome → Use
 use_of (deeds.Table gpn index frame (Some value)) item outcome = Reads gpn index value
 use_of (deeds.Access gpn index frame true) (items.Access address op) (Some outcome) = use_of_word outcome op gpn index
+use_of (deeds.Commit frame gpn size) (items.Pvalidate address asked validate) (Some (outcomes.Carry carry)) = use_of_validation gpn size asked validate carry
 use_of deed item outcome = Untouched
 
--- what an event of the firmware does with the memory of one guest, by what it leaves: no command is built yet
+-- what an event of the firmware does with the memory of one guest, by what it leaves: a page that is launched for the guest gets the words that its frame then has, and every other event does nothing
 unfoldable pub firmware_use : ℕ → Contents → Deed → Item → Option Outcome → Use
+firmware_use guest left (deeds.Commit frame gpn size) (items.Firmware (commands.LaunchUpdate owner page page_type imi perms)) (Some (outcomes.Firmware status)) =
+    if (owner == guest) && (status == 0) then Launches gpn (left.pages frame).words else Untouched
 firmware_use guest left deed item outcome = Untouched
 
 -- what an event does with the memory of one guest, by what it leaves: its own processors' events and the firmware's alone do anything
@@ -92,14 +113,30 @@ IsLegalUse memory (Reads gpn index found) = MayRead memory gpn index found
 IsLegalUse memory (Writes gpn index value) = IsHeld memory gpn
 IsLegalUse memory (Exchanges gpn index found value) = MayRead memory gpn index found
 IsLegalUse memory (Compares gpn index found written expected next) = MayRead memory gpn index found × (written ≡ (found == expected))
+IsLegalUse memory (Accepts gpn count) = Unit {0}
+IsLegalUse memory (Rescinds gpn count) = Unit {0}
+IsLegalUse memory (Launches gpn words) = Unit {0}
 
--- the memory after it: a word that was read is known from then on, as is one that was written
+-- memory with `count` pages from one on, each with these places
+unfoldable pub with_pages : ℕ → ℕ → Places → Memory → Memory
+with_pages gpn zero places memory = memory
+with_pages gpn (suc count) places memory = with_pages (gpn + 1) count places (insert memory gpn places)
+
+-- memory without `count` pages from one on
+unfoldable pub without_pages : ℕ → ℕ → Memory → Memory
+without_pages gpn zero memory = memory
+without_pages gpn (suc count) memory = without_pages (gpn + 1) count (remove memory gpn)
+
+-- the memory after it: a word that was read is known from then on, as is one that was written; pages are held from their launch or acceptance until they are rescinded
 unfoldable pub used : Use → Memory → Memory
 used Untouched memory = memory
 used (Reads gpn index found) memory = with_known gpn index found memory
 used (Writes gpn index value) memory = with_known gpn index value memory
 used (Exchanges gpn index found value) memory = with_known gpn index value memory
 used (Compares gpn index found written expected next) memory = with_known gpn index (if written then next else found) memory
+used (Accepts gpn count) memory = with_pages gpn count unknown_places memory
+used (Rescinds gpn count) memory = without_pages gpn count memory
+used (Launches gpn words) memory = with_pages gpn 1 (map Some words) memory
 
 -- memory with `count` further pages, whose words are those of the frames from `frame` on
 unfoldable pub with_frames : (ℕ → List ℕ) → ℕ → ℕ → ℕ → Memory → Memory

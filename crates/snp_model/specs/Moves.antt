@@ -17,7 +17,7 @@ use Rattle.snp_model.specs.declared.walk.Need.{Need}
 use Rattle.snp_model.specs.declared.walk.Need.TheVariants as needs
 use Rattle.snp_model.specs.GuestWalk.{levels_of, is_canonical}
 use Rattle.snp_model.specs.Opening.{asid_of}
-use Rattle.snp_model.specs.State.{Page, Pages, Context, Contents, Standing, ActorPart, word_of}
+use Rattle.snp_model.specs.State.{PageLock, Page, Pages, Context, Contents, Standing, ActorPart, word_of}
 use Rattle.snp_model.specs.Verdicts.{private_verdict}
 use Rattle.snp_model.specs.Walking.{Processor, need_after, fault_of}
 
@@ -102,3 +102,9 @@ walked_move frames guests contents part cpu lookup refusal arrives [] =
     begin_move contents part (contents.contexts cpu.guest) (levels_of cpu.paging) lookup.address refusal
 walked_move frames guests contents part cpu lookup refusal arrives (deed ∷ others) =
     need_move frames guests contents part cpu lookup arrives (need_after frames cpu lookup (deed ∷ others))
+
+-- an event that takes a page's lock, with its tests, or ends the attempt with the refusal
+unfoldable pub lock_move : Contents → ActorPart → PageLock → Option Outcome → Move
+lock_move contents part lock None =
+    record { deed = deeds.Lock lock.frame; outcome = None; contents = contents; standing = record part.standing { locks = part.standing.locks ++ lock ∷ [] } }
+lock_move contents part lock (Some outcome) = quiet_move contents part (deeds.Lock lock.frame) (Some outcome)

@@ -2,22 +2,15 @@
 use Rattle.std.specs.Prelude.{ℕ, ◌+◌, ◌-◌, ◌*◌, ◌==◌, true, false, if◌then◌else◌, List, [], ◌∷◌, map, replicate, slice_get, slice_set, slice_index_or, Option, Some, None}
 use Rattle.snp_model.specs.declared.entry.RmpEntry.{RmpEntry}
 use Rattle.snp_model.specs.declared.entry.Kind.TheVariants.{Plain}
-use Rattle.snp_model.specs.declared.entry.PageSize.{PageSize}
-use Rattle.snp_model.specs.declared.entry.PageSize.TheVariants.{Small, Large}
 use Rattle.snp_model.specs.declared.firmware.GuestState.TheVariants.{Absent, Running}
 use Rattle.snp_model.specs.declared.scenario.Actor.{Actor}
 use Rattle.snp_model.specs.declared.scenario.GuestSpec.{GuestSpec}
 use Rattle.snp_model.specs.declared.scenario.PageSpec.{PageSpec}
 use Rattle.snp_model.specs.declared.scenario.WordSpec.{WordSpec}
 use Rattle.snp_model.specs.declared.scenario.Scenario.{Scenario}
-use Rattle.snp_model.specs.Facts.{free_entry}
+use Rattle.snp_model.specs.Facts.{free_entry, frames_in}
 use Rattle.snp_model.specs.State.{Context, Contexts, ActorPart, State, nothing_taken, zero_words}
 use Rattle.snp_model.specs.Locks.{in_range}
-
--- how many frames a page has
-abbrev pub frames_in : PageSize → ℕ
-frames_in Small = 1
-frames_in Large = 512
 
 -- the ASID of a guest, by number from 1
 abbrev pub asid_of : List GuestSpec → ℕ → ℕ

@@ -14,7 +14,7 @@ pub record IsReady (frames : ℕ) (guests : List GuestSpec) (part : ActorPart) :
   pub script : AllByRecursion (IsLineOf frames part.role) part.script
   -- and its open attempt has made what its item calls for, which is not much
   pub bounded : IsBounded frames part
-  -- and no event takes a lock yet
+  -- and it has taken no lock: no event of such an item takes one yet
   pub unlocked : part.standing ≡ nothing_taken
 
 -- so each actor

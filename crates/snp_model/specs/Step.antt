@@ -24,6 +24,7 @@ use Rattle.snp_model.specs.Accesses.{guest_verdict}
 use Rattle.snp_model.specs.Opening.{asid_of}
 use Rattle.snp_model.specs.Operations.{writes, outcome_of, word_after}
 use Rattle.snp_model.specs.Outcomes.{class_of, is_in_use}
+use Rattle.snp_model.specs.InstructionStep.{update_move, smash_move, cpu_validate, cpu_adjust}
 use Rattle.snp_model.specs.Moves.{Move, Arrival, memory_move, quiet_move, unbuilt_move, misplaced_move, walked_move}
 use Rattle.snp_model.specs.Skips.{skip_outcome}
 use Rattle.snp_model.specs.Verdicts.{host_verdict}
@@ -73,8 +74,10 @@ skip_move contents part count test = quiet_move contents part deeds.Control (Som
 unfoldable pub item_move : ℕ → List GuestSpec → View → ActorPart → Role → Item → Move
 item_move frames guests view part (Cpu guest vmpl npt paging) (items.Access address op) =
     cpu_access frames guests view.contents part (record { guest = guest; vmpl = vmpl; npt = npt; paging = paging }) address op part.deeds
-item_move frames guests view part (Cpu guest vmpl npt paging) (items.Pvalidate address size validate) = unbuilt_move view.contents part
-item_move frames guests view part (Cpu guest vmpl npt paging) (items.Rmpadjust address size target mask vmsa) = unbuilt_move view.contents part
+item_move frames guests view part (Cpu guest vmpl npt paging) (items.Pvalidate address size validate) =
+    cpu_validate frames guests view part (record { guest = guest; vmpl = vmpl; npt = npt; paging = paging }) address size validate
+item_move frames guests view part (Cpu guest vmpl npt paging) (items.Rmpadjust address size target mask vmsa) =
+    cpu_adjust frames guests view part (record { guest = guest; vmpl = vmpl; npt = npt; paging = paging }) address size target mask vmsa
 item_move frames guests view part (Cpu guest vmpl npt paging) (items.Rmpupdate update) = misplaced_move view.contents part
 item_move frames guests view part (Cpu guest vmpl npt paging) (items.Psmash frame) = misplaced_move view.contents part
 item_move frames guests view part (Cpu guest vmpl npt paging) (items.Firmware command) = misplaced_move view.contents part
@@ -82,8 +85,8 @@ item_move frames guests view part (Cpu guest vmpl npt paging) (items.Skip count 
 item_move frames guests view part Host (items.Access address op) = host_access view.contents part address op
 item_move frames guests view part Host (items.Pvalidate address size validate) = misplaced_move view.contents part
 item_move frames guests view part Host (items.Rmpadjust address size target mask vmsa) = misplaced_move view.contents part
-item_move frames guests view part Host (items.Rmpupdate update) = unbuilt_move view.contents part
-item_move frames guests view part Host (items.Psmash frame) = unbuilt_move view.contents part
+item_move frames guests view part Host (items.Rmpupdate update) = update_move frames view part update part.standing.locks
+item_move frames guests view part Host (items.Psmash frame) = smash_move frames view part frame part.standing.locks
 item_move frames guests view part Host (items.Firmware command) = misplaced_move view.contents part
 item_move frames guests view part Host (items.Skip count test) = skip_move view.contents part count test
 item_move frames guests view part Firmware (items.Access address op) = misplaced_move view.contents part

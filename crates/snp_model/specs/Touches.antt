@@ -1,6 +1,7 @@
 -- Which regions of memory, and which guest's context, the next event of an actor may read or write. It is told by the actor's own part, the size of memory and the declared guests alone. This project's own.
-use Rattle.std.specs.Prelude.{◌≡◌, ℕ, ◌/◌, ◌==◌, Bool, true, false, List, [], ◌∷◌, Option, Some, None}
-use Rattle.std.specs.List.{list_any}
+use Rattle.std.specs.Prelude.{◌≡◌, ℕ, ◌+◌, ◌-◌, ◌/◌, ◌==◌, nat_lt, if◌then◌else◌, ◌++◌, Bool, true, false, List, [], ◌∷◌, Option, Some, None, is_some}
+use Rattle.std.specs.List.{list_any, range_with_len}
+use Rattle.snp_model.specs.declared.command.Command.{Command}
 use Rattle.snp_model.specs.declared.event.Deed.{Deed}
 use Rattle.snp_model.specs.declared.item.Item.{Item}
 use Rattle.snp_model.specs.declared.item.Item.TheVariants as items
@@ -10,7 +11,11 @@ use Rattle.snp_model.specs.declared.scenario.Role.TheVariants.{Cpu, Host, Firmwa
 use Rattle.snp_model.specs.declared.walk.Lookup.{Lookup}
 use Rattle.snp_model.specs.declared.walk.Need.{Need}
 use Rattle.snp_model.specs.declared.walk.Need.TheVariants as needs
-use Rattle.snp_model.specs.State.{ActorPart, Contents, View}
+use Rattle.snp_model.specs.FirmwareLocks.{guest_refusal}
+use Rattle.snp_model.specs.FirmwareStep.{Phase, TakeContext, TakePage, Computing, Committing, phase_of}
+use Rattle.snp_model.specs.InstructionStep.{page_lookup}
+use Rattle.snp_model.specs.RmpUpdate.{is_bad_update, is_bad_smash}
+use Rattle.snp_model.specs.State.{PageLock, Standing, ActorPart, Contents, View}
 use Rattle.snp_model.specs.Step.{Stepped, line_at}
 use Rattle.snp_model.specs.Walking.{Processor, lookup_of, need_after}
 
@@ -47,12 +52,51 @@ unfoldable pub walk_touches : ℕ → Processor → Lookup → List Deed → Tou
 walk_touches frames cpu lookup [] = context_touched cpu.guest
 walk_touches frames cpu lookup (deed ∷ others) = need_touches (need_after frames cpu lookup (deed ∷ others))
 
+-- the regions of a lock's range, from that of its first frame to that of its last
+abbrev pub lock_regions : PageLock → List ℕ
+lock_regions lock = range_with_len (region_of lock.base) (region_of (lock.base + lock.count - 1) - region_of lock.base + 1)
+
+-- of several locks
+unfoldable pub locks_regions : List PageLock → List ℕ
+locks_regions [] = []
+locks_regions (lock ∷ locks) = lock_regions lock ++ locks_regions locks
+
+-- what is touched by an event that may also release these locks
+abbrev pub with_locks : List PageLock → Touched → Touched
+with_locks locks touched = record { regions = touched.regions ++ locks_regions locks; context = touched.context }
+
+-- a lock that is asked for touches its frame, and its commit what is locked; what is refused before any entry is looked at touches nothing
+unfoldable pub instruction_touches : Bool → ℕ → List PageLock → Touched
+instruction_touches refused frame [] = if refused then nothing_touched else frame_touched frame
+instruction_touches refused frame (lock ∷ others) = with_locks (lock ∷ others) (frame_touched frame)
+
+-- all that an attempt has locked, whose locks a refusal would release
+abbrev pub taken_touched : Standing → Touched
+taken_touched standing = with_locks standing.locks (record { regions = []; context = standing.context_lock })
+
+-- what the next event of a command touches, by what its attempt needs: a frame outside memory and an undeclared guest aren't touched
+unfoldable pub phase_touches : ℕ → List GuestSpec → Standing → Phase → Touched
+phase_touches frames guests standing (TakeContext guest) = if is_some (guest_refusal guests guest) then nothing_touched else context_touched guest
+phase_touches frames guests standing (TakePage page) =
+    with_locks standing.locks (record {
+      regions = if nat_lt page.frame frames then region_of page.frame ∷ [] else [];
+      context = standing.context_lock;
+    })
+phase_touches frames guests standing (Computing sealing) = taken_touched standing
+phase_touches frames guests standing Committing = taken_touched standing
+
+-- what the next event of a command touches
+abbrev pub firmware_touches : ℕ → List GuestSpec → Standing → Command → Touched
+firmware_touches frames guests standing command = phase_touches frames guests standing (phase_of command standing)
+
 -- the next event of an item, by the role of its actor
 unfoldable pub item_touches : ℕ → List GuestSpec → ActorPart → Role → Item → Touched
 item_touches frames guests part (Cpu guest vmpl npt paging) (items.Access address op) =
     walk_touches frames (record { guest = guest; vmpl = vmpl; npt = npt; paging = paging }) (lookup_of address op) part.deeds
-item_touches frames guests part (Cpu guest vmpl npt paging) (items.Pvalidate address size validate) = nothing_touched
-item_touches frames guests part (Cpu guest vmpl npt paging) (items.Rmpadjust address size target mask vmsa) = nothing_touched
+item_touches frames guests part (Cpu guest vmpl npt paging) (items.Pvalidate address size validate) =
+    with_locks part.standing.locks (walk_touches frames (record { guest = guest; vmpl = vmpl; npt = npt; paging = paging }) (page_lookup address) part.deeds)
+item_touches frames guests part (Cpu guest vmpl npt paging) (items.Rmpadjust address size target mask vmsa) =
+    with_locks part.standing.locks (walk_touches frames (record { guest = guest; vmpl = vmpl; npt = npt; paging = paging }) (page_lookup address) part.deeds)
 item_touches frames guests part (Cpu guest vmpl npt paging) (items.Rmpupdate update) = nothing_touched
 item_touches frames guests part (Cpu guest vmpl npt paging) (items.Psmash frame) = nothing_touched
 item_touches frames guests part (Cpu guest vmpl npt paging) (items.Firmware command) = nothing_touched
@@ -60,8 +104,8 @@ item_touches frames guests part (Cpu guest vmpl npt paging) (items.Skip count te
 item_touches frames guests part Host (items.Access address op) = frame_touched (address / 4096)
 item_touches frames guests part Host (items.Pvalidate address size validate) = nothing_touched
 item_touches frames guests part Host (items.Rmpadjust address size target mask vmsa) = nothing_touched
-item_touches frames guests part Host (items.Rmpupdate update) = nothing_touched
-item_touches frames guests part Host (items.Psmash frame) = nothing_touched
+item_touches frames guests part Host (items.Rmpupdate update) = instruction_touches (is_bad_update frames update) update.frame part.standing.locks
+item_touches frames guests part Host (items.Psmash frame) = instruction_touches (is_bad_smash frames frame) frame part.standing.locks
 item_touches frames guests part Host (items.Firmware command) = nothing_touched
 item_touches frames guests part Host (items.Skip count test) = nothing_touched
 item_touches frames guests part Firmware (items.Access address op) = nothing_touched

@@ -16,6 +16,11 @@ abbrev pub is_large : PageSize → Bool
 is_large Small = false
 is_large Large = true
 
+-- whether two sizes are the same
+abbrev pub same_size : PageSize → PageSize → Bool
+same_size Small size = not (is_large size)
+same_size Large size = is_large size
+
 -- whether permissions lack what an operation needs: bit 0 to read, bit 1 to write
 abbrev pub lacks : ℕ → Op → Bool
 lacks permissions op =

@@ -1,4 +1,5 @@
 use Rattle.std.proofs.Common.{◌≡◌, ℕ, List, map, ap, ◌∙◌}
+use Rattle.snp_model.specs.declared.entry.RmpEntry.{RmpEntry}
 use Rattle.snp_model.specs.Facts.{free_entry}
 use Rattle.snp_model.specs.Opening.{facts_from, words_from, opening_part}
 use Rattle.snp_model.specs.State.{zero_words}
@@ -7,10 +8,14 @@ use Rattle.machine_core.proofs.OpeningLaws.{IsBuilt, opened, built_machine, shor
 use Rattle.snp_model.proofs.SoundLaws.{valid_is_sound}
 use Rattle.machine_core.proofs.machine.Machine.build.Goals as goal
 
-pub set_pages-requires : goal.set_pages-requires
-set_pages-requires c =
+pub set_pages-requires-clause-pages : goal.set_pages-requires-clause-pages
+set_pages-requires-clause-pages c =
     let sound = valid_is_sound c.args.scenario.now c.requires in
     rw (c.in_ok-parts.ensures.regions, c.as_slice-guests.ensures, c.as_slice.ensures) sound.pages
+
+pub set_pages-requires-clause-small : goal.set_pages-requires-clause-small
+unfolding free_entry
+set_pages-requires-clause-small c = λ f. ap (λ (facts : ℕ → RmpEntry). (facts f).size) c.in_ok-parts.ensures.facts
 
 pub set_words-requires : goal.set_words-requires
 set_words-requires c =
