@@ -31,7 +31,7 @@ pub struct Draft {
 /// What is made so far.
 #[derive(Drop)]
 pub enum Made {
-    /// Nothing before the line `snp 1`.
+    /// Nothing before the line that says the version.
     Nothing,
     /// A scenario.
     Reading(Draft),

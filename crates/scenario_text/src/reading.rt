@@ -116,7 +116,7 @@ fn is_passed_over(line: &[u8]) -> bool
     line.is_empty() || line[0] == b'#'
 }
 
-// What a line makes before the line `snp 1`.
+// What a line makes where no line has said the version yet.
 #[tactic(auto, unfolding(snp_model::specs::Reading::fit_line))]
 fn fit_first<'a>(
     made: &mut Made,
@@ -133,8 +133,8 @@ fn fit_first<'a>(
     if !words.split(line) {
         return Err(LineFault::Refused(Reason::Form));
     }
-    read_version(words)?;
-    *made = Made::Reading(Draft::new(alloc));
+    let version = read_version(words)?;
+    *made = Made::Reading(Draft::new(alloc, version));
     Ok(())
 }
 

@@ -4,6 +4,7 @@ ghost use Rattle.std.specs.List.{list_all, list_any, range_with_len};
 ghost use Rattle.snp_model.specs.Lines.{is_hex_digit};
 ghost use Rattle.snp_model.specs.ScenarioLines.{
   frames_of,
+  version_of,
   version_row,
   regions_row,
   next_number,
@@ -21,6 +22,8 @@ ghost use Rattle.snp_model.specs.ScenarioLines.{
   page_row,
   word_row,
   cpu_row,
+  has_five_levels,
+  tables_at,
   tables_row,
   host_row,
   turn_from,
@@ -34,13 +37,27 @@ use script_text::number::{
 use script_text::words::{Words, cut};
 use snp_model::{GuestSpec, PageSize, PageSpec, Paging, Reason, Role, Scenario, Turn, WordSpec};
 
-/// `snp 1`
+// The version of a text.
+#[tactic(auto, unfolding(snp_model::specs::ScenarioLines::version_of))]
+fn version_of(word: &[u8]) -> Result<u8, Reason>
+    ensures { result ≡ version_of word.now }
+{
+    if is_word(word, b"1") {
+        Ok(1)
+    } else if is_word(word, b"2") {
+        Ok(2)
+    } else {
+        Err(Reason::Form)
+    }
+}
+
+/// `snp 1`, `snp 2`
 #[tactic(auto, unfolding(snp_model::specs::ScenarioLines::version_row))]
-pub fn read_version(words: &Words<'_>) -> Result<(), Reason>
+pub fn read_version(words: &Words<'_>) -> Result<u8, Reason>
     ensures { result ≡ version_row words.now }
 {
     if words.is_row(b"snp", 2) {
-        read_fixed(words.at(1), b"1")
+        version_of(words.at(1))
     } else {
         Err(Reason::Form)
     }
@@ -287,7 +304,32 @@ pub fn read_cpu(scenario: &Scenario, words: &Words<'_>) -> Result<Role, Reason>
     })
 }
 
-/// `actor N cpu G vmpl V npt F gcr3 P`
+// Whether guest tables have five levels and not four.
+#[tactic(auto, unfolding(snp_model::specs::ScenarioLines::has_five_levels))]
+fn has_five_levels(version: u8, word: &[u8]) -> Result<bool, Reason>
+    ensures { result ≡ has_five_levels version word.now }
+{
+    if is_word(word, b"gcr3") {
+        Ok(false)
+    } else if is_word(word, b"la57") && version == 2 {
+        Ok(true)
+    } else {
+        Err(Reason::Form)
+    }
+}
+
+// Guest tables that begin at this guest page number.
+fn tables_at(five: bool, root: u64) -> Paging
+    ensures { result ≡ tables_at five root }
+{
+    if five {
+        Paging::Five(root)
+    } else {
+        Paging::Four(root)
+    }
+}
+
+/// `actor N cpu G vmpl V npt F gcr3 P`, and in version 2 `actor N cpu G vmpl V npt F la57 P`
 #[tactic(auto, unfolding(snp_model::specs::ScenarioLines::tables_row))]
 pub fn read_tables(scenario: &Scenario, words: &Words<'_>) -> Result<Role, Reason>
     requires count { length words.now ≡ 10 }
@@ -303,7 +345,7 @@ pub fn read_tables(scenario: &Scenario, words: &Words<'_>) -> Result<Role, Reaso
     let vmpl = read_below(4, words.at(5))?;
     read_fixed(words.at(6), b"npt")?;
     let npt = read_below(u64::from(512 * scenario.regions), words.at(7))?;
-    read_fixed(words.at(8), b"gcr3")?;
+    let five = has_five_levels(scenario.version, words.at(8))?;
     let root = read_below(1 << 36, words.at(9))?;
     if !is_declared(scenario.guests.as_slice(), guest) {
         return Err(Reason::Guest);
@@ -312,7 +354,7 @@ pub fn read_tables(scenario: &Scenario, words: &Words<'_>) -> Result<Role, Reaso
         guest: guest as u8,
         vmpl: vmpl as u8,
         npt: npt as u32,
-        paging: Paging::Four(root),
+        paging: tables_at(five, root),
     })
 }
 

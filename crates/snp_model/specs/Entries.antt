@@ -3,9 +3,11 @@ use Rattle.std.specs.Prelude.{◌≡◌, ℕ, ◌+◌, ◌%◌, ◌<◌, ◌==�
 use Rattle.snp_model.specs.declared.entry.RmpEntry.{RmpEntry}
 use Rattle.snp_model.specs.declared.entry.PageSize.TheVariants.{Large}
 use Rattle.snp_model.specs.declared.event.InUse.{InUse}
+use Rattle.snp_model.specs.declared.event.Refusal.{Refusal}
 use Rattle.snp_model.specs.Facts.{free_entry, frames_in}
 use Rattle.snp_model.specs.Locks.{over, over_lock}
-use Rattle.snp_model.specs.State.{PageLock}
+use Rattle.snp_model.specs.RegionWords.{page_at}
+use Rattle.snp_model.specs.State.{PageLock, Pages}
 
 -- the facts of the frames, and the actors that hold their locks
 pub record Entries : Type 0 where
@@ -45,6 +47,15 @@ without_locks actor holder frame = released actor (holder frame)
 abbrev pub lock_answer : Option ℕ → Result (Unit {0}) InUse
 lock_answer None = Ok tt
 lock_answer (Some holder) = Err (record { holder = holder })
+
+-- the answer where a refusal may stand in the way
+abbrev pub refusal_answer : Option Refusal → Result (Unit {0}) Refusal
+refusal_answer None = Ok tt
+refusal_answer (Some refusal) = Err refusal
+
+-- the pages of a region, by slot
+abbrev pub region_pages : List (List ℕ) → Entries → Pages
+region_pages memory rmp slot = record { facts = facts_at rmp slot; words = page_at memory slot }
 
 -- one holder has the locks of all frames, or none is locked
 abbrev pub HasOneHolder : Entries → Type 0

@@ -19,10 +19,12 @@ pub mod Gcm
 pub mod GuestMemory
 pub mod GuestReads
 pub mod GuestWalk
+pub mod HeldContexts
 pub mod Holders
 pub mod InstructionStep
 pub mod ItemLines
 pub mod Journal
+pub mod Limits
 pub mod Lines
 pub mod Live
 pub mod Locks
