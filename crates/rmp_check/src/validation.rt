@@ -23,11 +23,7 @@ pub fn validate_refusal(
     match holder {
         Some(holder) => Some(Refusal::InUse { holder }),
         None => {
-            if !entry.assigned
-                || entry.asid != at.asid
-                || entry.gpn != at.gpn
-                || entry.immutable
-            {
+            if !entry.assigned || entry.asid != at.asid || entry.gpn != at.gpn || entry.immutable {
                 Some(validation_fault(false))
             } else if !is_large(size) && (is_large(entry.size) || is_large(at.leaf)) {
                 Some(validation_fault(true))

@@ -223,11 +223,7 @@ fn keep_apart(pages: &[PageSpec], taken: &Taken, page: PageSpec) -> Result<PageS
 
 /// `page F of G at P S V X Y Z`
 #[tactic(auto, unfolding(snp_model::specs::ScenarioLines::page_row))]
-pub fn read_page(
-    scenario: &Scenario,
-    taken: &Taken,
-    words: &Words<'_>,
-) -> Result<PageSpec, Reason>
+pub fn read_page(scenario: &Scenario, taken: &Taken, words: &Words<'_>) -> Result<PageSpec, Reason>
     requires known { Knows taken.now scenario.now.pages }
     requires count { length words.now ≡ 11 }
     requires regions { scenario.now.regions ≤ 16 }

@@ -64,7 +64,7 @@ rest_printable bytes end is inside space =
 
 -- another byte does
 pub unprintable : (bytes : List ℕ) (end : ℕ) → IsEnd bytes end → end < length bytes → get_or bytes end 0 ≢ 32 → list_all is_printable bytes ≡ false
-unprintable bytes end is inside other = 
+unprintable bytes end is inside other =
     let ends : ends_word (get_or bytes end 0) ≡ true = rw is (passes_at_first ends_word bytes 0 (omega arith)) in
     list_all_at is_printable bytes end 0 inside (not_printable _ ends other)
 
