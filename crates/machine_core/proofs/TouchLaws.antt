@@ -124,8 +124,8 @@ item_among : (regions : ℕ) (guests : List GuestSpec) (part : ActorPart) (role 
 unfolding item_touches
 item_among regions guests part (Cpu guest vmpl npt paging) (items.Access address op) is_role is_item =
     walk_among regions (record { guest = guest; vmpl = vmpl; npt = npt; paging = paging }) (lookup_of address op) part.deeds is_role.npt_below
-item_among regions guests part (Cpu guest vmpl npt paging) (items.Pvalidate address size validate) is_role is_item = none_among regions nothing_touched refl
-item_among regions guests part (Cpu guest vmpl npt paging) (items.Rmpadjust address size target mask vmsa) is_role is_item = none_among regions nothing_touched refl
+item_among regions guests part (Cpu guest vmpl npt paging) (items.Pvalidate address size validate) is_role is_item = absurd is_item
+item_among regions guests part (Cpu guest vmpl npt paging) (items.Rmpadjust address size target mask vmsa) is_role is_item = absurd is_item
 item_among regions guests part (Cpu guest vmpl npt paging) (items.Rmpupdate update) is_role is_item = none_among regions nothing_touched refl
 item_among regions guests part (Cpu guest vmpl npt paging) (items.Psmash frame) is_role is_item = none_among regions nothing_touched refl
 item_among regions guests part (Cpu guest vmpl npt paging) (items.Firmware command) is_role is_item = none_among regions nothing_touched refl
@@ -133,8 +133,8 @@ item_among regions guests part (Cpu guest vmpl npt paging) (items.Skip count tes
 item_among regions guests part Host (items.Access address op) is_role is_item = frame_among regions (address / 4096) (address_among regions address is_item.0)
 item_among regions guests part Host (items.Pvalidate address size validate) is_role is_item = none_among regions nothing_touched refl
 item_among regions guests part Host (items.Rmpadjust address size target mask vmsa) is_role is_item = none_among regions nothing_touched refl
-item_among regions guests part Host (items.Rmpupdate update) is_role is_item = none_among regions nothing_touched refl
-item_among regions guests part Host (items.Psmash frame) is_role is_item = none_among regions nothing_touched refl
+item_among regions guests part Host (items.Rmpupdate update) is_role is_item = absurd is_item
+item_among regions guests part Host (items.Psmash frame) is_role is_item = absurd is_item
 item_among regions guests part Host (items.Firmware command) is_role is_item = none_among regions nothing_touched refl
 item_among regions guests part Host (items.Skip count test) is_role is_item = none_among regions nothing_touched refl
 item_among regions guests part Firmware (items.Access address op) is_role is_item = none_among regions nothing_touched refl

@@ -100,6 +100,7 @@ fn cpu_event<P: Parts>(
     stands: GuestEnd,
 ) -> Shown
     requires cpu { IsCpu frames (length guests.now) cpu.guest cpu.vmpl cpu.npt cpu.paging }
+    requires item { IsItemOf frames (Cpu cpu.guest cpu.vmpl cpu.npt cpu.paging) item }
     requires stands { IsBegun actor.now.deeds → stands ≡ stands_of (Cpu cpu.guest cpu.vmpl cpu.npt cpu.paging) item (guest_words actor.now.deeds) }
     requires inside { IsGuestInside stands }
     requires has { HasTouched (item_touches frames guests.now actor.now (Cpu cpu.guest cpu.vmpl cpu.npt cpu.paging) item) (P.stock parts.old) }

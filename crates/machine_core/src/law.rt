@@ -4,6 +4,7 @@ ghost use Rattle.snp_model.specs.declared.scenario.Scenario.{Scenario};
 ghost use Rattle.snp_model.specs.Attempts.{attempts_of};
 ghost use Rattle.snp_model.specs.GuestMemory.{memory_after};
 ghost use Rattle.snp_model.specs.Holders.{Core};
+ghost use Rattle.snp_model.specs.Live.{Archive, vault_of};
 ghost use Rattle.snp_model.specs.OpenAttempts.{AreWalking, ReadsMemory};
 ghost use Rattle.snp_model.specs.Opening.{asid_of};
 ghost use Rattle.snp_model.specs.Reading.{Valid};
@@ -46,8 +47,8 @@ pub fn machine_laws()
 
     // In every run each page of a declared guest has at most one holder, which has a page of the guest's memory with its
     // known words.
-    ensures holders { (scenario : Scenario) (schedule : List ℕ) (guest : ℕ)
+    ensures holders { (scenario : Scenario) (schedule : List ℕ) (archive : Archive) (guest : ℕ)
         → Valid scenario → 0 < guest → guest ≤ length scenario.guests
-        → Core (state_after scenario schedule).contents.pages (asid_of scenario.guests guest)
+        → Core (asid_of scenario.guests guest) (vault_of guest (state_after scenario schedule).contents archive)
         (memory_after scenario schedule guest) }
 {}

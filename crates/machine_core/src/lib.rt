@@ -1,4 +1,18 @@
 //! The machine: memory by regions, guests and actors, and one event after the other.
+//!
+//! - `machine`: the machine; `building`: its opening; `law`: what holds of every step and run.
+//! - `event`: `advance`, one event of one actor, by its role and its item.
+//! - `actor`: an actor's own state; `walk_words`: what its walks have read; `shown`: what an event shows.
+//! - `cpu`, `host`, `skip`: the items; `walking`: what the walks of a guest's processor need next.
+//! - `parts`: what is lent to an event; `bay`: one region of it; `reads`, `changes`: what an event reads of a region, and
+//!   what it reads and writes of one at once.
+//!
+//! One event goes this way: `Machine::step` lends all regions to `advance`, which asks the actor for its role and its line
+//! (`next_event`) and goes by the role (`cpu_event`, `host_event`, `firmware_event`) and the item to `cpu_access`,
+//! `host_access` or `skip`. An access of a guest's processor asks `walk_need` what it needs. A word of a table is read by
+//! `reads`, and the access itself is made by `changes`, which take the region's `Bay` from the parts: the check and the
+//! access are one call of `access_step` on it. What comes back is a `Shown`, which `ActorState::take_down` turns into the
+//! event and the actor's next state.
 #![tactic(auto)]
 
 mod actor;

@@ -6,7 +6,7 @@ use Rattle.snp_model.specs.declared.event.Event.{Event}
 use Rattle.snp_model.specs.declared.report.GuestLine.{GuestLine}
 use Rattle.snp_model.specs.EventText.{event_text}
 use Rattle.snp_model.specs.Journal.{actors_of}
-use Rattle.snp_model.specs.Report.{line, event_lines, runs_after, runs_of, run_text, order_rest, order_lines, guest_text, guest_lines, end_text, report_text}
+use Rattle.snp_model.specs.Report.{line, event_lines, runs_after, runs_of, run_text, order_rest, order_lines, guest_text, guest_lines, end_text, head_text, report_text}
 
 -- an entry, and those after it
 pub entry_at : {X : Type 0} (xs : List X) (k : ℕ) (x : X) → slice_get xs k ≡ Some x → drop k xs ≡ x ∷ drop (k + 1) xs
@@ -120,9 +120,9 @@ guest_at guests seen i d e h =
     ∙ ap (λ (gs : List GuestLine). line (guest_text (get_or seen i d)) ++ guest_lines (drop (i + 1) gs)) e
 
 -- the parts of a report
-pub report_is : (entries : List (ℕ × Event)) (guests : List GuestLine) → report_text entries guests ≡ line (codes "snp-report 1") ++ (event_lines 0 entries ++ (order_lines (runs_of (actors_of entries)) ++ (guest_lines guests ++ line (end_text (length entries)))))
+pub report_is : (version : ℕ) (entries : List (ℕ × Event)) (guests : List GuestLine) → report_text version entries guests ≡ line (head_text version) ++ (event_lines 0 entries ++ (order_lines (runs_of (actors_of entries)) ++ (guest_lines guests ++ line (end_text (length entries)))))
 unfolding report_text
-report_is entries guests = refl
+report_is version entries guests = refl
 
 pub no_runs : order_lines (runs_of []) ≡ []
 unfolding order_lines runs_of

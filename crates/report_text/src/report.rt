@@ -2,7 +2,7 @@ ghost use Rattle.std.specs.Prelude.{◌≡◌, ◌+◌, ◌^◌, ◌<◌, ◌≤
 ghost use Rattle.snp_model.specs.EventText.{event_text};
 ghost use Rattle.snp_model.specs.Journal.{actors_of};
 ghost use Rattle.snp_model.specs.Outside.{Rose, Writes};
-ghost use Rattle.snp_model.specs.Report.{digest_text, end_text, event_lines, guest_lines, guest_text, line, order_lines, report_text, runs_of, state_text};
+ghost use Rattle.snp_model.specs.Report.{digest_text, end_text, event_lines, guest_lines, guest_text, head_text, line, order_lines, report_text, runs_of, state_text};
 
 use crate::base16::put_bytes;
 use crate::line::write_line;
@@ -12,22 +12,38 @@ use run_journal::Journal;
 use script_text::pen::{put, put_named};
 use snp_model::{Event, GuestLine, GuestState};
 
-/// Writes the report of a journal and its guests, each line by a call of its own. Takes no memory.
+/// Writes the report of a journal and its guests, each line by a call of its own. `version` is 1 or 2, that of the scenario.
+/// Takes no memory.
 pub fn write_report<K: Sink>(
+    version: u8,
     journal: &Journal,
     guests: &Vec<GuestLine>,
     sink: &mut K,
 ) -> Result<(), SinkFault>
-    requires { length journal.now.list < 2 ^ 32 }
-    ensures text { Writes (K.written sink.old) (K.written sink.new) result (report_text journal.now.list guests.now.items) }
+    requires version { (1 ≤ version) × (version ≤ 2) }
+    requires short { length journal.now.list < 2 ^ 32 }
+    ensures text { Writes (K.written sink.old) (K.written sink.new) result (report_text version journal.now.list guests.now.items) }
     ensures later { K.faults sink.old ≤ K.faults sink.new }
     ensures cause { OnErr result (Rose (K.faults sink.old) (K.faults sink.new)) }
 {
-    write_all(sink, b"snp-report 1\n")?;
+    write_head(version, sink)?;
     write_events(journal, sink)?;
     write_order(journal, sink)?;
     write_guests(guests, sink)?;
     write_end(journal.len(), sink)
+}
+
+// Writes the first line.
+#[tactic(auto, unfolding(snp_model::specs::Report::head_text))]
+fn write_head<K: Sink>(version: u8, sink: &mut K) -> Result<(), SinkFault>
+    ensures text { Writes (K.written sink.old) (K.written sink.new) result (line (head_text version)) }
+    ensures later { K.faults sink.old ≤ K.faults sink.new }
+    ensures cause { OnErr result (Rose (K.faults sink.old) (K.faults sink.new)) }
+{
+    let mut buffer = [0; 32];
+    let end = put_named(&mut buffer, 0, b"snp-report ", u64::from(version));
+    let end = put(&mut buffer, end, b"\n");
+    write_all(sink, &buffer[..end])
 }
 
 // Writes a line for each event.

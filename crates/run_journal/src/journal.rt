@@ -16,10 +16,10 @@ pub struct Journal {
 
 impl Model for Journal {
     ghost use Rattle.std.specs.Prelude.{vec_capacity};
-    ghost use Rattle.snp_model.specs.Journal.{Entries};
+    ghost use Rattle.snp_model.specs.Journal.{JournalImage};
     ghost use Rattle.run_journal.specs.Shorts.{entries_of, AreShorts};
 
-    ghost Value = { Entries };
+    ghost Value = { JournalImage };
 
     ghost view = { λ j. record { list = entries_of j.outcomes.items j.events.items; room = vec_capacity j.events } };
 

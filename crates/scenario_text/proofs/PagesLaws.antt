@@ -1,33 +1,23 @@
--- Pages in their order: one past all others collides with none.
-use Rattle.std.proofs.Common.{◌≡◌, ℕ, ◌+◌, ◌<◌, ◌≤◌, Bool, true, false, ◌&&◌, ◌||◌, List, [], ◌∷◌, ◌++◌, refl, ap, ◌∙◌, arith}
-use Rattle.std.proofs.lemmas.Bool.Decides.{nat_tests}
-use Rattle.std.specs.List.{list_all, list_any}
+-- The frames and guest page numbers that pages have.
+use Rattle.std.proofs.Common.{◌≡◌, Bool, true, false, ◌||◌, List, [], ◌∷◌, refl, ap, sym, ◌∙◌, arith}
+use Rattle.std.specs.List.{list_any}
 use Rattle.snp_model.specs.declared.scenario.PageSpec.{PageSpec}
 use Rattle.snp_model.specs.ScenarioLines.{collide}
-use Rattle.scenario_text.specs.Behind.{is_behind, are_behind}
+use Rattle.scenario_text.specs.Pages.{has_frame, has_gpn}
 
-and_true_l : (a b : Bool) → a && b ≡ true → a ≡ true
-and_true_l true b e = refl
-and_true_l false b e = e
+or_or : (a b c d : Bool) → ((a || b) || (c || d)) ≡ ((a || c) || (b || d))
+or_or true b true d = refl
+or_or true b false d = refl
+or_or false true c d = grind arith
+or_or false false c d = refl
 
-and_true_r : (a b : Bool) → a && b ≡ true → b ≡ true
-and_true_r true b e = e
-and_true_r false b e = absurd (cc)
+-- a page that collides with one of these has its frame or its guest page number
+pub collides : (page : PageSpec) (pages : List PageSpec) → list_any (collide page) pages ≡ (list_any (has_frame page.frame) pages || list_any (has_gpn (page.guest, page.gpn)) pages)
+collides page [] = refl
+collides page (other ∷ pages) = ap (λ (b : Bool). collide page other || b) (collides page pages) ∙ or_or (has_frame page.frame other) (has_gpn (page.guest, page.gpn) other) _ _
 
-one_more : (frame gpn past past_gpn : ℕ) (other : PageSpec) → is_behind frame gpn other ≡ true → frame ≤ past → gpn ≤ past_gpn → is_behind past past_gpn other ≡ true
-one_more frame gpn past past_gpn other b f g = grind (arith, nat_tests)
+pub by_frame : (page : PageSpec) (pages : List PageSpec) (has : Bool) → has ≡ list_any (has_frame page.frame) pages → has ≡ true → has ≡ list_any (collide page) pages
+by_frame page pages has is taken = sym (collides page pages ∙ rw (sym is ∙ taken) (sym taken))
 
-one_apart : (frame gpn : ℕ) (page other : PageSpec) → is_behind frame gpn other ≡ true → frame ≤ page.frame → gpn ≤ page.gpn → collide page other ≡ false
-one_apart frame gpn page other b f g = grind (arith, nat_tests)
-
-pub apart_behind : (frame gpn : ℕ) (page : PageSpec) (pages : List PageSpec) → are_behind frame gpn pages ≡ true → frame ≤ page.frame → gpn ≤ page.gpn → list_any (collide page) pages ≡ false
-apart_behind frame gpn page [] b f g = refl
-apart_behind frame gpn page (other ∷ pages) b f g =
-    ap (λ (x : Bool). x || list_any (collide page) pages) (one_apart frame gpn page other (and_true_l _ _ b) f g)
-    ∙ apart_behind frame gpn page pages (and_true_r _ _ b) f g
-
-pub behind_more : (frame gpn past past_gpn : ℕ) (page : PageSpec) (pages : List PageSpec) → are_behind frame gpn pages ≡ true → frame ≤ past → gpn ≤ past_gpn → page.frame < past → page.gpn < past_gpn → are_behind past past_gpn (pages ++ page ∷ []) ≡ true
-behind_more frame gpn past past_gpn page [] b f g p q = grind (arith, nat_tests)
-behind_more frame gpn past past_gpn page (other ∷ pages) b f g p q =
-    ap (λ (x : Bool). x && are_behind past past_gpn (pages ++ page ∷ [])) (one_more frame gpn past past_gpn other (and_true_l _ _ b) f g)
-    ∙ behind_more frame gpn past past_gpn page pages (and_true_r _ _ b) f g p q
+pub by_gpn : (page : PageSpec) (pages : List PageSpec) (frame has : Bool) → frame ≡ list_any (has_frame page.frame) pages → frame ≡ false → has ≡ list_any (has_gpn (page.guest, page.gpn)) pages → has ≡ list_any (collide page) pages
+by_gpn page pages frame has is free gpn = sym (collides page pages ∙ rw (sym is ∙ free) (sym gpn))

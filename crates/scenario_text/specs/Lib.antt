@@ -1,3 +1,3 @@
 pub mod Answers
-pub mod Behind
+pub mod Pages
 pub mod Steps

@@ -1,5 +1,5 @@
 -- What the steps of reading a scenario text answer.
-use Rattle.std.specs.Prelude.{◌≡◌, ℕ, List, Result, Ok, Err}
+use Rattle.std.specs.Prelude.{◌≡◌, ℕ, List, take, Result, Ok, Err}
 use Rattle.snp_model.specs.declared.reading.Reason.{Reason}
 use Rattle.snp_model.specs.declared.scenario.Scenario.{Scenario}
 use Rattle.snp_model.specs.declared.scenario.Turn.{Turn}
@@ -9,7 +9,6 @@ use Rattle.scenario_text.specs.declared.fault.LineFault.{LineFault}
 use Rattle.scenario_text.specs.declared.fault.LineFault.TheVariants.{Refused, Limit, Memory}
 use Rattle.scenario_text.specs.declared.fault.ScenarioFault.{ScenarioFault}
 use Rattle.scenario_text.specs.declared.fault.ScenarioFault.TheVariants as faults
-use Rattle.scenario_text.specs.declared.draft.Draft.{Draft}
 use Rattle.scenario_text.specs.declared.draft.Next.{Next}
 use Rattle.scenario_text.specs.declared.draft.Next.TheVariants.{Goes, Ends}
 use Rattle.scenario_text.specs.declared.draft.Made.{Made}
@@ -37,11 +36,6 @@ abbrev pub Grows : Result (Unit {0}) LineFault → Scenario → Result says.Made
 Grows (Ok done) scenario answer = answer ≡ Ok (reading scenario)
 Grows (Err fault) scenario answer = Fails fault answer
 
--- of one that gives the draft back
-abbrev pub GivesDraft : Result Draft LineFault → Result says.Made Fault → Type 0
-GivesDraft (Ok draft) answer = answer ≡ Ok (reading draft.scenario)
-GivesDraft (Err fault) answer = Fails fault answer
-
 -- of one that may end its text
 abbrev pub Continues : Result Next LineFault → Scenario → Result says.Made Fault → Type 0
 Continues (Ok Goes) scenario answer = answer ≡ Ok (reading scenario)
@@ -59,15 +53,10 @@ IsClosed (Reading draft) new = made_of new ≡ closed draft.scenario
 IsClosed Nothing new = Unit {0}
 IsClosed (Closed scenario) new = Unit {0}
 
--- the same of the turns of a line
-abbrev pub FailsRow : {A : Type 0} → LineFault → Result A Reason → Type 0
-FailsRow (Refused reason) answer = answer ≡ Err reason
-FailsRow (Limit quantity count) answer = ⊥
-FailsRow Memory answer = Unit {0}
-
-abbrev pub GivesTurns : Result (List Turn) LineFault → Result (List Turn) Reason → Type 0
-GivesTurns (Ok turns) answer = answer ≡ Ok turns
-GivesTurns (Err fault) answer = FailsRow fault answer
+-- the runs of a line are the first so many of these
+abbrev pub GivesTurns : Result ℕ Reason → List Turn → Result (List Turn) Reason → Type 0
+GivesTurns (Ok count) turns answer = answer ≡ Ok (take count turns)
+GivesTurns (Err reason) turns answer = answer ≡ Err reason
 
 -- the result of a text is this one
 abbrev pub FailsAt : ScenarioFault → Result Scenario (ℕ × Fault) → Type 0

@@ -1,12 +1,13 @@
-ghost use Rattle.std.specs.Prelude.{◌≡◌, ◌≤◌, length, true};
-ghost use Rattle.scenario_text.specs.Behind.{are_behind};
+ghost use Rattle.std.specs.Prelude.{◌≡◌, ◌≤◌, length};
+ghost use Rattle.scenario_text.specs.Pages.{Knows};
 ghost use Rattle.snp_model.specs.Reading.{turns_count};
 ghost use Rattle.snp_model.specs.Attempts.{actors_attempts};
 
+use crate::taken::Taken;
 use snp_model::{Listed, Scenario};
 use std::alloc::Global;
 
-/// A scenario whose text is being read, with running sums for its limits.
+/// A scenario whose text is being read, with what its limits and repeats need.
 #[derive(Drop)]
 pub struct Draft {
     /// What the lines so far make.
@@ -15,11 +16,9 @@ pub struct Draft {
     pub attempts: u32,
     /// The entries of the schedule.
     pub turns: u32,
-    /// The pages have frames below this.
-    pub past_frame: u64,
-    /// The pages have guest page numbers below this.
-    pub past_gpn: u64,
-    ghost pages_behind: { are_behind past_frame past_gpn scenario.pages ≡ true },
+    /// The frames and guest page numbers of the pages.
+    pub taken: Taken,
+    ghost pages_known: { Knows taken scenario.pages },
     ghost regions_most: { scenario.regions ≤ 16 },
     ghost guests_most: { length scenario.guests ≤ 8 },
     ghost actors_most: { length scenario.actors ≤ 32 },
@@ -32,7 +31,7 @@ pub struct Draft {
 /// What is made so far.
 #[derive(Drop)]
 pub enum Made {
-    /// Nothing before the line `snp 1`.
+    /// Nothing before the line that says the version.
     Nothing,
     /// A scenario.
     Reading(Draft),

@@ -7,6 +7,7 @@ pub mod laws;
 mod reading;
 mod rows;
 mod steps;
+mod taken;
 #[cfg(test)]
 mod tests;
 mod text;

@@ -13,7 +13,8 @@ ghost use Rattle.snp_model.specs.ScenarioLines.{
 };
 ghost use Rattle.snp_model.specs.Reading.{add_words, fit_words, fit_line, fit, is_passed_over, by_rule, nothing, reading, closed};
 ghost use Rattle.snp_model.specs.Reading as says;
-ghost use Rattle.scenario_text.specs.Steps.{made_of, Gives, Grows, Continues, Changes, IsClosed};
+ghost use Rattle.scenario_text.specs.Steps.{made_of, Grows, Continues, Changes, IsClosed};
+ghost use Rattle.scenario_text.specs.declared.draft.Made.TheVariants.{Nothing};
 
 use crate::draft::{Draft, Made, Next};
 use crate::fault::LineFault;
@@ -87,7 +88,7 @@ fn add_words(draft: &mut Draft, alloc: Global, words: &Words<'_>) -> Result<Next
     } else if stands(words, b"guest", 9, before_pages(scenario)) {
         goes_on(draft.add_guest(words))
     } else if stands(words, b"page", 11, before_words(scenario)) {
-        goes_on(draft.add_page(words))
+        goes_on(draft.add_page(alloc, words))
     } else if stands(words, b"word", 4, before_actors(scenario)) {
         goes_on(draft.add_word(words))
     } else if stands(words, b"actor", 9, before_orders(scenario)) {
@@ -100,7 +101,7 @@ fn add_words(draft: &mut Draft, alloc: Global, words: &Words<'_>) -> Result<Next
         let role = read_host(scenario, words);
         goes_on(draft.add_actor(alloc, role))
     } else if order_stands(words, scenario.regions != 0) {
-        goes_on(draft.add_order(alloc, words))
+        goes_on(draft.add_order(words))
     } else if stands(words, b"end", 1, scenario.regions != 0) {
         Ok(Next::Ends)
     } else {
@@ -115,39 +116,45 @@ fn is_passed_over(line: &[u8]) -> bool
     line.is_empty() || line[0] == b'#'
 }
 
-// What the words of a first line make.
-fn first_words(alloc: Global, words: &Words<'_>) -> Result<Made, LineFault>
-    ensures { Gives result (fit_words nothing words.now) }
-{
-    read_version(words)?;
-    Ok(Made::Reading(Draft::new(alloc)))
-}
-
-// What a line makes before the line `snp 1`.
+// What a line makes where no line has said the version yet.
 #[tactic(auto, unfolding(snp_model::specs::Reading::fit_line))]
-fn fit_first(alloc: Global, line: &[u8]) -> Result<Made, LineFault>
-    ensures { Gives result (fit_line nothing line.now) }
+fn fit_first<'a>(
+    made: &mut Made,
+    alloc: Global,
+    words: &mut Words<'a>,
+    line: &'a [u8],
+) -> Result<(), LineFault>
+    requires { made.old ≡ Nothing }
+    ensures { Changes result made.new (fit_line nothing line.now) }
 {
     if is_passed_over(line) {
-        return Ok(Made::Nothing);
+        return Ok(());
     }
-    match Words::of_plain(line) {
-        Some(words) => first_words(alloc, &words),
-        None => Err(LineFault::Refused(Reason::Form)),
+    if !words.split(line) {
+        return Err(LineFault::Refused(Reason::Form));
     }
+    let version = read_version(words)?;
+    *made = Made::Reading(Draft::new(alloc, version));
+    Ok(())
 }
 
 // What a line makes of a scenario.
 #[tactic(auto, unfolding(snp_model::specs::Reading::fit_line))]
-fn fit_next(draft: &mut Draft, alloc: Global, line: &[u8]) -> Result<Next, LineFault>
+fn fit_next<'a>(
+    draft: &mut Draft,
+    alloc: Global,
+    words: &mut Words<'a>,
+    line: &'a [u8],
+) -> Result<Next, LineFault>
     ensures { Continues result draft.new.scenario (fit_line (reading draft.old.scenario) line.now) }
 {
     if is_passed_over(line) {
         return Ok(Next::Goes);
     }
-    match Words::of_plain(line) {
-        Some(words) => add_words(draft, alloc, &words),
-        None => Err(LineFault::Refused(Reason::Form)),
+    if words.split(line) {
+        add_words(draft, alloc, words)
+    } else {
+        Err(LineFault::Refused(Reason::Form))
     }
 }
 
@@ -162,17 +169,19 @@ fn close(made: &mut Made)
     }
 }
 
-/// What a line makes of what is made so far, or why it doesn't fit.
+/// What a line makes of what is made so far, or why it doesn't fit. Its words are kept in a place that serves every line.
 #[tactic(auto, unfolding(snp_model::specs::Reading::fit))]
-pub fn fit(alloc: Global, made: &mut Made, line: &[u8]) -> Result<(), LineFault>
+pub fn fit<'a>(
+    alloc: Global,
+    made: &mut Made,
+    words: &mut Words<'a>,
+    line: &'a [u8],
+) -> Result<(), LineFault>
     ensures { Changes result made.new (fit (made_of made.old) line.now) }
 {
     match made {
-        Made::Nothing => {
-            *made = fit_first(alloc, line)?;
-            Ok(())
-        }
-        Made::Reading(draft) => match fit_next(draft, alloc, line) {
+        Made::Nothing => fit_first(made, alloc, words, line),
+        Made::Reading(draft) => match fit_next(draft, alloc, words, line) {
             Ok(Next::Goes) => Ok(()),
             Ok(Next::Ends) => {
                 close(made);

@@ -1,9 +1,10 @@
 ghost use Rattle.std.specs.Prelude.{◌≡◌, ℕ, ◌+◌, ◌≤◌, ◌<◌, ◌^◌, true, IsTrue, IfOk, length, map, Ok, Err};
-ghost use Rattle.scenario_text.specs.Behind.{are_behind};
+ghost use Rattle.scenario_text.specs.Pages.{Knows};
 ghost use Rattle.std.specs.List.{list_all, list_any, range_with_len};
 ghost use Rattle.snp_model.specs.Lines.{is_hex_digit};
 ghost use Rattle.snp_model.specs.ScenarioLines.{
   frames_of,
+  version_of,
   version_row,
   regions_row,
   next_number,
@@ -21,25 +22,42 @@ ghost use Rattle.snp_model.specs.ScenarioLines.{
   page_row,
   word_row,
   cpu_row,
+  has_five_levels,
+  tables_at,
   tables_row,
   host_row,
   turn_from,
   turn_of,
 };
 
+use crate::taken::Taken;
 use script_text::number::{
     all_hex, digit_value, is_word, read_below, read_decimal, read_fixed, read_number, read_ranged,
 };
 use script_text::words::{Words, cut};
 use snp_model::{GuestSpec, PageSize, PageSpec, Paging, Reason, Role, Scenario, Turn, WordSpec};
 
-/// `snp 1`
+// The version of a text.
+#[tactic(auto, unfolding(snp_model::specs::ScenarioLines::version_of))]
+fn version_of(word: &[u8]) -> Result<u8, Reason>
+    ensures { result ≡ version_of word.now }
+{
+    if is_word(word, b"1") {
+        Ok(1)
+    } else if is_word(word, b"2") {
+        Ok(2)
+    } else {
+        Err(Reason::Form)
+    }
+}
+
+/// `snp 1`, `snp 2`
 #[tactic(auto, unfolding(snp_model::specs::ScenarioLines::version_row))]
-pub fn read_version(words: &Words<'_>) -> Result<(), Reason>
+pub fn read_version(words: &Words<'_>) -> Result<u8, Reason>
     ensures { result ≡ version_row words.now }
 {
     if words.is_row(b"snp", 2) {
-        read_fixed(words.at(1), b"1")
+        version_of(words.at(1))
     } else {
         Err(Reason::Form)
     }
@@ -189,34 +207,14 @@ fn read_validity(word: &[u8]) -> Result<bool, Reason>
     }
 }
 
-fn collide(page: &PageSpec, other: &PageSpec) -> bool
-    ensures { result ≡ collide page.now other.now }
-{
-    page.frame == other.frame || (page.guest == other.guest && page.gpn == other.gpn)
-}
-
-fn any_collides(page: &PageSpec, pages: &[PageSpec]) -> bool
-    ensures { result ≡ list_any (collide page.now) pages.now }
-{
-    pages.iter().any(|other| collide(page, other))
-}
-
-// A page that collides with none of these, which have frames and guest page numbers below those.
-#[tactic(auto, using(crate::proofs::PagesLaws::apart_behind), unfolding(snp_model::specs::ScenarioLines::apart))]
-fn keep_apart(
-    pages: &[PageSpec],
-    past_frame: u64,
-    past_gpn: u64,
-    page: PageSpec,
-) -> Result<PageSpec, Reason>
-    requires { are_behind past_frame past_gpn pages.now ≡ true }
+// A page that collides with none of these, which are taken.
+#[tactic(auto, unfolding(snp_model::specs::ScenarioLines::apart))]
+fn keep_apart(pages: &[PageSpec], taken: &Taken, page: PageSpec) -> Result<PageSpec, Reason>
+    requires { Knows taken.now pages.now }
     ensures apart { result ≡ apart pages.now page }
     ensures same { IfOk result (λ kept. kept ≡ page) }
 {
-    if past_frame <= u64::from(page.frame) && past_gpn <= page.gpn {
-        return Ok(page);
-    }
-    if any_collides(&page, pages) {
+    if taken.has(&page) {
         Err(Reason::Repeat)
     } else {
         Ok(page)
@@ -227,11 +225,10 @@ fn keep_apart(
 #[tactic(auto, unfolding(snp_model::specs::ScenarioLines::page_row))]
 pub fn read_page(
     scenario: &Scenario,
-    past_frame: u64,
-    past_gpn: u64,
+    taken: &Taken,
     words: &Words<'_>,
 ) -> Result<PageSpec, Reason>
-    requires behind { are_behind past_frame past_gpn scenario.now.pages ≡ true }
+    requires known { Knows taken.now scenario.now.pages }
     requires count { length words.now ≡ 11 }
     requires regions { scenario.now.regions ≤ 16 }
     requires few { length scenario.now.guests ≤ 8 }
@@ -259,7 +256,7 @@ pub fn read_page(
         valid,
         perms: [first as u8, second as u8, third as u8],
     };
-    keep_apart(scenario.pages.as_slice(), past_frame, past_gpn, page)
+    keep_apart(scenario.pages.as_slice(), taken, page)
 }
 
 /// `word F I V`
@@ -307,7 +304,32 @@ pub fn read_cpu(scenario: &Scenario, words: &Words<'_>) -> Result<Role, Reason>
     })
 }
 
-/// `actor N cpu G vmpl V npt F gcr3 P`
+// Whether guest tables have five levels and not four.
+#[tactic(auto, unfolding(snp_model::specs::ScenarioLines::has_five_levels))]
+fn has_five_levels(version: u8, word: &[u8]) -> Result<bool, Reason>
+    ensures { result ≡ has_five_levels version word.now }
+{
+    if is_word(word, b"gcr3") {
+        Ok(false)
+    } else if is_word(word, b"la57") && version == 2 {
+        Ok(true)
+    } else {
+        Err(Reason::Form)
+    }
+}
+
+// Guest tables that begin at this guest page number.
+fn tables_at(five: bool, root: u64) -> Paging
+    ensures { result ≡ tables_at five root }
+{
+    if five {
+        Paging::Five(root)
+    } else {
+        Paging::Four(root)
+    }
+}
+
+/// `actor N cpu G vmpl V npt F gcr3 P`, and in version 2 `actor N cpu G vmpl V npt F la57 P`
 #[tactic(auto, unfolding(snp_model::specs::ScenarioLines::tables_row))]
 pub fn read_tables(scenario: &Scenario, words: &Words<'_>) -> Result<Role, Reason>
     requires count { length words.now ≡ 10 }
@@ -323,7 +345,7 @@ pub fn read_tables(scenario: &Scenario, words: &Words<'_>) -> Result<Role, Reaso
     let vmpl = read_below(4, words.at(5))?;
     read_fixed(words.at(6), b"npt")?;
     let npt = read_below(u64::from(512 * scenario.regions), words.at(7))?;
-    read_fixed(words.at(8), b"gcr3")?;
+    let five = has_five_levels(scenario.version, words.at(8))?;
     let root = read_below(1 << 36, words.at(9))?;
     if !is_declared(scenario.guests.as_slice(), guest) {
         return Err(Reason::Guest);
@@ -332,7 +354,7 @@ pub fn read_tables(scenario: &Scenario, words: &Words<'_>) -> Result<Role, Reaso
         guest: guest as u8,
         vmpl: vmpl as u8,
         npt: npt as u32,
-        paging: Paging::Four(root),
+        paging: tables_at(five, root),
     })
 }
 

@@ -4,16 +4,16 @@ ghost use Rattle.snp_model.specs.ScenarioLines.{idle, with_line, first_scenario,
 ghost use Rattle.snp_model.specs.ItemLines.{item_words};
 ghost use Rattle.snp_model.specs.Reading.{turns_count, by_rule, within, add_regions, add_guest, add_page, add_word, add_actor, add_line, add_item, add_item_of, add_order};
 ghost use Rattle.snp_model.specs.Attempts.{actors_attempts, attempts_of};
-ghost use Rattle.scenario_text.specs.Steps.{Grows, GivesDraft, GivesTurns};
+ghost use Rattle.scenario_text.specs.Steps.{GivesTurns, Grows};
 
 use crate::draft::Draft;
 use crate::fault::LineFault;
 use crate::rows::{read_guest, read_page, read_regions, read_turn, read_word};
+use crate::taken::Taken;
 use script_text::item::read_item_words;
 use script_text::words::Words;
 use snp_model::{Actor, Line, Listed, Quantity, Reason, Role, Scenario, Turn};
 use std::alloc::{AllocError, Global};
-use std::mem;
 
 // An actor that has no items yet.
 fn idle(alloc: Global, role: Role) -> Actor
@@ -50,18 +50,17 @@ fn last_role(actors: &[Actor]) -> Option<Role>
     }
 }
 
-// The runs of a schedule that stand behind the first word.
+// The runs of a schedule that stand behind the first word, and how many they are.
 #[tactic(auto, unfolding(snp_model::specs::ScenarioLines::order_row, snp_model::specs::ScenarioLines::turns_after))]
-fn read_turns(alloc: Global, words: &Words<'_>) -> Result<Listed<Turn>, LineFault>
-    ensures turns { GivesTurns result (order_row words.now) }
-    ensures few { IfOk result (λ turns. length turns ≤ 16) }
+fn read_turns(words: &Words<'_>, turns: &mut [Turn; 16]) -> Result<usize, Reason>
+    ensures turns { GivesTurns result turns.new (order_row words.now) }
+    ensures few { IfOk result (λ count. count ≤ 16) }
 {
-    let mut turns = Listed::new(alloc);
-    for k in 1..words.count() {
-        let turn = read_turn(words.at(k))?;
-        turns.push(turn)?;
+    let count = words.count();
+    for k in 1..count {
+        turns[k - 1] = read_turn(words.at(k))?;
     }
-    Ok(turns)
+    Ok(count - 1)
 }
 
 // How many entries runs have.
@@ -79,13 +78,14 @@ fn count_turns(turns: &[Turn]) -> u64
 }
 
 impl Draft {
-    /// The scenario of the line `snp 1`.
+    /// The scenario of the first line, which says the version.
     #[tactic(auto, unfolding(snp_model::specs::Attempts::actors_attempts, snp_model::specs::Reading::turns_count))]
-    pub fn new(alloc: Global) -> Draft
-        ensures { result.scenario ≡ first_scenario }
+    pub fn new(alloc: Global, version: u8) -> Draft
+        ensures { result.scenario ≡ first_scenario version }
     {
         Draft {
             scenario: Scenario {
+                version,
                 regions: 0,
                 guests: Listed::new(alloc),
                 pages: Listed::new(alloc),
@@ -95,8 +95,7 @@ impl Draft {
             },
             attempts: 0,
             turns: 0,
-            past_frame: 0,
-            past_gpn: 0,
+            taken: Taken::new(alloc),
         }
     }
 
@@ -107,7 +106,7 @@ impl Draft {
         ensures { Grows result self.new.scenario (add_regions self.old.scenario words.now) }
     {
         let regions = read_regions(words)?;
-        if regions > 16 {
+        if regions > Quantity::Regions.most() {
             return Err(LineFault::Limit {
                 quantity: Quantity::Regions,
                 count: regions,
@@ -125,7 +124,7 @@ impl Draft {
     {
         let guest = read_guest(&self.scenario, words)?;
         let count = self.scenario.guests.len() as u64 + 1;
-        if count > 8 {
+        if count > Quantity::Guests.most() {
             return Err(LineFault::Limit {
                 quantity: Quantity::Guests,
                 count,
@@ -136,16 +135,21 @@ impl Draft {
     }
 
     /// `page ..`
-    #[tactic(auto, using(crate::proofs::PagesLaws::behind_more), unfolding(snp_model::specs::Reading::add_page))]
-    pub fn add_page(&mut self, words: &Words<'_>) -> Result<(), LineFault>
+    #[tactic(auto, unfolding(snp_model::specs::Reading::add_page))]
+    pub fn add_page(&mut self, alloc: Global, words: &Words<'_>) -> Result<(), LineFault>
         requires { length words.now ≡ 11 }
         ensures { Grows result self.new.scenario (add_page self.old.scenario words.now) }
     {
-        let page = read_page(&self.scenario, self.past_frame, self.past_gpn, words)?;
+        let page = read_page(&self.scenario, &self.taken, words)?;
         self.scenario.pages.push(page)?;
-        self.past_frame = self.past_frame.max(u64::from(page.frame) + 1);
-        self.past_gpn = self.past_gpn.max(page.gpn + 1);
-        Ok(())
+        match self.taken.add(&page) {
+            Ok(()) => Ok(()),
+            Err(_) => {
+                self.scenario.pages = Listed::new(alloc);
+                self.taken = Taken::new(alloc);
+                Err(LineFault::Memory)
+            }
+        }
     }
 
     /// `word ..`
@@ -159,81 +163,71 @@ impl Draft {
         Ok(())
     }
 
-    // `actor ..`, of which `role` is what its row says.
-    #[tactic(auto, using(snp_model::proofs::AttemptLaws::attempts_idle), unfolding(snp_model::specs::Reading::add_actor))]
-    fn with_actor(mut self, alloc: Global, role: Result<Role, Reason>) -> Result<Draft, LineFault>
-        ensures { GivesDraft result (add_actor self.scenario role) }
+    /// `actor ..`, of which `role` is what its row says.
+    #[tactic(auto, unfolding(snp_model::specs::Reading::add_actor))]
+    pub fn add_actor(&mut self, alloc: Global, role: Result<Role, Reason>) -> Result<(), LineFault>
+        ensures { Grows result self.new.scenario (add_actor self.old.scenario role) }
     {
         let role = role?;
         let count = self.scenario.actors.len() as u64 + 1;
-        if count > 32 {
+        if count > Quantity::Actors.most() {
             return Err(LineFault::Limit {
                 quantity: Quantity::Actors,
                 count,
             });
         }
         self.scenario.actors.push(idle(alloc, role))?;
-        Ok(self)
-    }
-
-    // An item of the last actor.
-    #[tactic(auto, using(snp_model::proofs::AttemptLaws::attempts_line), unfolding(snp_model::specs::Reading::add_item, snp_model::specs::Reading::add_line, snp_model::specs::Attempts::attempts_of))]
-    fn with_item(mut self, words: &Words<'_>) -> Result<Draft, LineFault>
-        ensures { GivesDraft result (add_item self.scenario words.now) }
-    {
-        if !self.scenario.order.is_empty() {
-            return Err(LineFault::Refused(Reason::Form));
-        }
-        match last_role(self.scenario.actors.as_slice()) {
-            Some(role) => {
-                let line = read_item_words(&role, 512 * self.scenario.regions, words)?;
-                let attempts = self.attempts + 1 + u32::from(line.retries);
-                if attempts > 8192 {
-                    return Err(LineFault::Limit {
-                        quantity: Quantity::Attempts,
-                        count: u64::from(attempts),
-                    });
-                }
-                push_line(&mut self.scenario.actors, line)?;
-                self.attempts = attempts;
-                Ok(self)
-            }
-            None => Err(LineFault::Refused(Reason::Form)),
-        }
-    }
-
-    /// `actor ..`, of which `role` is what its row says.
-    pub fn add_actor(&mut self, alloc: Global, role: Result<Role, Reason>) -> Result<(), LineFault>
-        ensures { Grows result self.new.scenario (add_actor self.old.scenario role) }
-    {
-        let draft = mem::replace(self, Draft::new(alloc));
-        *self = draft.with_actor(alloc, role)?;
         Ok(())
     }
 
     /// An item of the last actor.
+    #[tactic(auto, using(snp_model::proofs::AttemptLaws::attempts_line), unfolding(snp_model::specs::Reading::add_item, snp_model::specs::Reading::add_line, snp_model::specs::Attempts::attempts_of))]
     pub fn add_item(&mut self, alloc: Global, words: &Words<'_>) -> Result<(), LineFault>
         ensures { Grows result self.new.scenario (add_item self.old.scenario words.now) }
     {
-        let draft = mem::replace(self, Draft::new(alloc));
-        *self = draft.with_item(words)?;
-        Ok(())
+        if !self.scenario.order.is_empty() {
+            return Err(LineFault::Refused(Reason::Form));
+        }
+        let Some(role) = last_role(self.scenario.actors.as_slice()) else {
+            return Err(LineFault::Refused(Reason::Form));
+        };
+        let line = read_item_words(&role, 512 * self.scenario.regions, words)?;
+        let attempts = self.attempts + 1 + u32::from(line.retries);
+        if u64::from(attempts) > Quantity::Attempts.most() {
+            return Err(LineFault::Limit {
+                quantity: Quantity::Attempts,
+                count: u64::from(attempts),
+            });
+        }
+        match push_line(&mut self.scenario.actors, line) {
+            Ok(()) => {
+                self.attempts = attempts;
+                Ok(())
+            }
+            Err(_) => {
+                self.scenario.actors = Listed::new(alloc);
+                self.attempts = 0;
+                Err(LineFault::Memory)
+            }
+        }
     }
 
     /// `order R..`
     #[tactic(auto, using(snp_model::proofs::AttemptLaws::turns_append), unfolding(snp_model::specs::Reading::add_order))]
-    pub fn add_order(&mut self, alloc: Global, words: &Words<'_>) -> Result<(), LineFault>
+    pub fn add_order(&mut self, words: &Words<'_>) -> Result<(), LineFault>
         ensures { Grows result self.new.scenario (add_order self.old.scenario words.now) }
     {
-        let turns = read_turns(alloc, words)?;
-        let count = u64::from(self.turns) + count_turns(turns.as_slice());
-        if count > 262_144 {
+        let mut turns = [Turn { actor: 0, count: 0 }; 16];
+        let runs = read_turns(words, &mut turns)?;
+        let turns = &turns[..runs];
+        let count = u64::from(self.turns) + count_turns(turns);
+        if count > Quantity::Order.most() {
             return Err(LineFault::Limit {
                 quantity: Quantity::Order,
                 count,
             });
         }
-        self.scenario.order.extend_from_slice(turns.as_slice())?;
+        self.scenario.order.extend_from_slice(turns)?;
         self.turns = count as u32;
         Ok(())
     }

@@ -8,12 +8,9 @@ ghost use Rattle.scenario_text.specs.Answers.{Answers};
 use crate::draft::Made;
 use crate::fault::{LineFault, ScenarioFault};
 use crate::reading::fit;
-use script_text::words::cut;
+use script_text::words::{Words, cut};
 use snp_model::{Quantity, Reason, Scenario};
 use std::alloc::{AllocError, Global};
-
-/// The most bytes of a text.
-const MOST_BYTES: u64 = 4_194_304;
 
 // A fault of a line, at its number.
 fn at_line(line: u32, fault: LineFault) -> ScenarioFault
@@ -56,10 +53,11 @@ fn read_lines(alloc: Global, text: &[u8]) -> Result<Scenario, ScenarioFault>
     ensures { Says result (read_text text.now) }
 {
     let mut made = Made::Nothing;
+    let mut words = Words::new();
     let mut line: u32 = 1;
     let mut rest = text;
     'lines: while let Some((bytes, more)) = cut(rest, b'\n') {
-        match fit(alloc, &mut made, bytes) {
+        match fit(alloc, &mut made, &mut words, bytes) {
             Ok(()) => {}
             Err(fault) => return Err(at_line(line, fault)),
         }
@@ -69,14 +67,14 @@ fn read_lines(alloc: Global, text: &[u8]) -> Result<Scenario, ScenarioFault>
     end(line, made, rest)
 }
 
-/// Reads a scenario text. Its time is linear in the text, but for the repeats of pages, of which there are 8,192 at most.
+/// Reads a scenario text, in a time linear in it.
 pub fn read_scenario(alloc: Global, text: &[u8]) -> Result<Scenario, ScenarioFault>
     ensures { Answers result text.now }
 {
-    if text.len() as u64 > MOST_BYTES {
+    if text.len() as u64 > Quantity::Bytes.most() {
         return Err(ScenarioFault::Limit {
             quantity: Quantity::Bytes,
-            count: MOST_BYTES + 1,
+            count: Quantity::Bytes.most() + 1,
         });
     }
     read_lines(alloc, text)

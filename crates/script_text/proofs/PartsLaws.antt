@@ -1,5 +1,5 @@
 -- The parts of bytes, by where the first separator stands.
-use Rattle.std.proofs.Common.{◌≡◌, ℕ, ◌+◌, ◌-◌, ◌<◌, ◌≤◌, cond, nat_lt, ◌==◌, Bool, List, [], ◌∷◌, length, take, drop, position, Some, None, arith, length-drop, take_all}
+use Rattle.std.proofs.Common.{◌≡◌, ℕ, ◌+◌, ◌<◌, ◌≤◌, cond, nat_lt, ◌==◌, Bool, List, [], ◌∷◌, length, take, drop, position, Some, None, arith}
 use Rattle.std.specs.List.{position_or_len}
 use Rattle.std.proofs.lemmas.List.Splits.{slice_split_none, slice_split_first}
 use Rattle.std.proofs.lemmas.List.Sums.{fails_before_first}
@@ -29,9 +29,3 @@ parts_some c bs at h =
     let near : position_or_len p bs < length bs = some_near (position_or_len p bs) (length bs) at h in
     let here : position_or_len p bs ≡ at = some_at (position_or_len p bs) (length bs) at h in
     rw (← here) (slice_split_first p bs 0 near)
-
--- the same, with the rest as a slice to the end
-pub parts_behind : (c : ℕ) (bs : List ℕ) (at : ℕ) → position (λ b. b == c) bs ≡ Some at → parts_at c bs ≡ take at bs ∷ parts_at c (take (length bs - (at + 1)) (drop (at + 1) bs))
-parts_behind c bs at h =
-    let fits : length (drop (at + 1) bs) ≤ length bs - (at + 1) = omega (arith, length-drop (at + 1) bs) in
-    rw (take_all (length bs - (at + 1)) (drop (at + 1) bs) fits) (parts_some c bs at h)

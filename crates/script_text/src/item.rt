@@ -216,8 +216,10 @@ pub fn read_item_words(role: &Role, frames: u32, words: &Words<'_>) -> Result<Li
 pub fn read_item(role: &Role, line: &[u8], frames: u32) -> Result<Line, Reason>
     ensures { result ≡ item_line role.now frames line.now }
 {
-    match Words::of_plain(line) {
-        Some(words) => read_item_words(role, frames, &words),
-        None => Err(Reason::Form),
+    let mut words = Words::new();
+    if words.split(line) {
+        read_item_words(role, frames, &words)
+    } else {
+        Err(Reason::Form)
     }
 }

@@ -1,15 +1,11 @@
 ghost use Rattle.std.specs.Prelude.{◌≡◌, ℕ, ◌≤◌, ◌<◌, ◌+◌, ◌*◌, ◌%◌, bytes_eq, length, IfOk, IsTrue};
 ghost use Rattle.std.specs.List.{list_all};
 ghost use Rattle.snp_model.specs.Lines.{
-  require,
   is_decimal_digit,
   is_hex_digit,
   digit_value,
-  is_decimal,
   decimal_of,
   in_word,
-  value_after,
-  is_hex,
   hex_of,
   is_prefixed,
   number_of,
@@ -20,6 +16,7 @@ ghost use Rattle.snp_model.specs.Lines.{
   below,
   multiple,
 };
+ghost use Rattle.script_text.specs.Digits.{digit_test, spelled};
 
 use snp_model::Reason;
 
@@ -43,7 +40,7 @@ pub fn read_fixed(word: &[u8], name: &[u8]) -> Result<(), Reason>
     }
 }
 
-/// Whether a byte is `0` to `9`.
+// Whether a byte is `0` to `9`.
 #[inline(always)]
 fn is_decimal_digit(byte: u8) -> bool
     ensures { result ≡ is_decimal_digit byte }
@@ -72,13 +69,6 @@ pub fn digit_value(byte: u8) -> u8
     }
 }
 
-#[inline(always)]
-fn all_decimal(digits: &[u8]) -> bool
-    ensures { result ≡ list_all is_decimal_digit digits.now }
-{
-    digits.iter().all(|byte| is_decimal_digit(*byte))
-}
-
 /// Whether each byte is a hex digit.
 pub fn all_hex(digits: &[u8]) -> bool
     ensures { result ≡ list_all is_hex_digit digits.now }
@@ -86,22 +76,79 @@ pub fn all_hex(digits: &[u8]) -> bool
     digits.iter().all(|byte| is_hex_digit(*byte))
 }
 
-fn is_decimal(digits: &[u8]) -> bool
-    ensures { result ≡ is_decimal digits.now }
+// Whether a byte is a digit in base 10 or 16.
+#[inline(always)]
+fn is_digit(base: u64, byte: u8) -> bool
+    ensures { result ≡ digit_test base byte }
 {
-    !digits.is_empty() && all_decimal(digits) && (digits.len() == 1 || digits[0] != b'0')
+    if base == 16 {
+        is_hex_digit(byte)
+    } else {
+        is_decimal_digit(byte)
+    }
 }
 
-fn is_hex(digits: &[u8]) -> bool
-    ensures { result ≡ is_hex digits.now }
-{
-    !digits.is_empty() && digits.len() <= 16 && all_hex(digits)
-}
-
+// Whether a word begins with `0x`.
+#[inline(always)]
 fn is_prefixed(word: &[u8]) -> bool
     ensures { result ≡ is_prefixed word.now }
 {
     word.len() >= 2 && word[0] == b'0' && word[1] == b'x'
+}
+
+// The value that one more digit makes, where it is below 2^64.
+#[inline(always)]
+fn add_digit(base: u64, value: u64, digit: u8) -> Option<u64>
+    ensures { result ≡ in_word (value * base + digit_value digit) }
+{
+    match value.checked_mul(base) {
+        Some(high) => high.checked_add(u64::from(digit_value(digit))),
+        None => None,
+    }
+}
+
+// The number that bytes spell in base 10 or 16, where each is a digit and it is below 2^64.
+#[inline(always)]
+fn value_of(base: u64, digits: &[u8]) -> Option<u64>
+    requires { 0 < base }
+    ensures { result ≡ spelled base digits.now }
+{
+    let mut value: u64 = 0;
+    for digit in digits {
+        if !is_digit(base, *digit) {
+            return None;
+        }
+        match add_digit(base, value, *digit) {
+            Some(more) => value = more,
+            None => return None,
+        }
+    }
+    Some(value)
+}
+
+// The number of decimal digits, which begin with 0 only where they are 0 itself.
+#[inline(always)]
+#[tactic(auto, unfolding(snp_model::specs::Lines::decimal_of))]
+fn decimal_of(digits: &[u8]) -> Option<u64>
+    ensures { result ≡ decimal_of digits.now }
+{
+    if digits.is_empty() || (digits.len() != 1 && digits[0] == b'0') {
+        None
+    } else {
+        value_of(10, digits)
+    }
+}
+
+// The number of 1 to 16 hex digits.
+#[tactic(auto, unfolding(snp_model::specs::Lines::hex_of))]
+fn hex_of(digits: &[u8]) -> Option<u64>
+    ensures { result ≡ hex_of digits.now }
+{
+    if digits.is_empty() || digits.len() > 16 {
+        None
+    } else {
+        value_of(16, digits)
+    }
 }
 
 /// A number of this word, or none.
@@ -113,55 +160,6 @@ pub fn number_of(word: &[u8]) -> Option<u64>
         hex_of(&word[2..])
     } else {
         decimal_of(word)
-    }
-}
-
-// The number that digits spell, where it is below 2^64.
-#[inline(always)]
-fn value_of(base: u64, digits: &[u8]) -> Option<u64>
-    requires { 0 < base }
-    ensures { result ≡ in_word (value_after base 0 digits.now) }
-{
-    let mut value: u64 = 0;
-    for digit in digits {
-        match add_digit(base, value, *digit) {
-            Some(more) => value = more,
-            None => return None,
-        }
-    }
-    Some(value)
-}
-
-// The number that one more digit makes.
-#[inline(always)]
-fn add_digit(base: u64, value: u64, digit: u8) -> Option<u64>
-    ensures { result ≡ in_word (value * base + digit_value digit) }
-{
-    match value.checked_mul(base) {
-        Some(high) => high.checked_add(u64::from(digit_value(digit))),
-        None => None,
-    }
-}
-
-#[tactic(auto, unfolding(snp_model::specs::Lines::decimal_of))]
-fn decimal_of(digits: &[u8]) -> Option<u64>
-    ensures { result ≡ decimal_of digits.now }
-{
-    if is_decimal(digits) {
-        value_of(10, digits)
-    } else {
-        None
-    }
-}
-
-#[tactic(auto, unfolding(snp_model::specs::Lines::hex_of))]
-fn hex_of(digits: &[u8]) -> Option<u64>
-    ensures { result ≡ hex_of digits.now }
-{
-    if is_hex(digits) {
-        value_of(16, digits)
-    } else {
-        None
     }
 }
 

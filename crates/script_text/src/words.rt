@@ -11,6 +11,7 @@ ghost use Rattle.std.specs.Prelude.{
   ◌∷◌,
   length,
   take,
+  drop,
   map,
   position,
   slice_index_or,
@@ -20,18 +21,30 @@ ghost use Rattle.std.specs.Prelude.{
   Some,
   None,
 };
-ghost use Rattle.std.specs.List.{list_all};
+ghost use Rattle.std.specs.Bool.{OnTrue};
+ghost use Rattle.std.specs.List.{list_all, position_or_len};
 ghost use Rattle.snp_model.specs.Lines.{parts_at, cut_at, words_of, word, most_words, is_row, is_printable, is_plain};
+ghost use Rattle.script_text.specs.Pieces.{ends_word};
 
 use crate::number::is_word;
 use std::marker::Model;
 
-#[inline(always)]
+// Where the first separator stands.
+#[inline(never)]
 fn place(bytes: &[u8], separator: u8) -> Option<usize>
     ensures place { result ≡ position (λ b. b == separator) bytes.now }
     ensures within { IfSome result (λ at. at < length bytes.now) }
 {
     bytes.iter().position(|byte| *byte == separator)
+}
+
+// The bytes behind this place.
+#[inline(always)]
+fn behind(bytes: &[u8], at: usize) -> &[u8]
+    requires { at < length bytes.now }
+    ensures { result.now ≡ drop (at + 1) bytes.now }
+{
+    &bytes[at + 1..]
 }
 
 /// The bytes before the first separator, and those behind it.
@@ -44,23 +57,31 @@ pub fn cut(bytes: &[u8], separator: u8) -> Option<(&[u8], &[u8])>
     ensures shorter { IfSome result (λ p. length p.0.now + length p.1.now < length bytes.now) }
 {
     match place(bytes, separator) {
-        Some(at) => Some((&bytes[..at], &bytes[at + 1..])),
+        Some(at) => Some((&bytes[..at], behind(bytes, at))),
         None => None,
     }
 }
 
+// Whether a byte is no part of a word: a space, or one that may not stand in a line.
 #[inline(always)]
-fn all_printable(line: &[u8]) -> bool
-    ensures { result ≡ list_all is_printable line.now }
+fn ends_word(byte: u8) -> bool
+    ensures { result ≡ ends_word byte }
 {
-    line.iter().all(|byte| is_printable(*byte))
+    !(0x21..=0x7e).contains(&byte)
 }
 
+// How many bytes the first word has.
 #[inline(always)]
-fn is_printable(byte: u8) -> bool
-    ensures { result ≡ is_printable byte }
+fn word_length(line: &[u8]) -> usize
+    ensures length { result ≡ position_or_len ends_word line.now }
+    ensures within { result ≤ length line.now }
 {
-    (0x20..=0x7e).contains(&byte)
+    for (at, byte) in line.iter().enumerate() {
+        if ends_word(*byte) {
+            return at;
+        }
+    }
+    line.len()
 }
 
 /// The words of a line, which are 1 to 17.
@@ -82,39 +103,37 @@ impl<'a> Model for Words<'a> {
 }
 
 impl<'a> Words<'a> {
-    /// The words of a line, or none where there are more than 17.
-    #[inline(always)]
-    pub fn of(line: &'a [u8]) -> Option<Words<'a>>
-        ensures words { MatchOption result (most_words < length (words_of line.now)) (λ ws. ws ≡ words_of line.now) }
-        ensures few { IfSome result (λ ws. length ws ≤ most_words) }
+    /// A place for the words of lines. It holds one word, which is empty, before the first line.
+    pub fn new() -> Words<'a>
+        ensures { result ≡ [] ∷ [] }
     {
-        let mut words: [&[u8]; 17] = [line; 17];
-        let mut count = 0;
-        let mut rest = line;
-        'words: while let Some((first, more)) = cut(rest, b' ') {
-            if count == 16 {
-                return None;
-            }
-            words[count] = first;
-            count += 1;
-            rest = more;
+        Words {
+            words: [b""; 17],
+            count: 1,
         }
-        words[count] = rest;
-        Some(Words {
-            words,
-            count: count + 1,
-        })
     }
 
-    /// The words of a line, or none where a byte may not stand in a line or there are more than 17 words.
+    /// Takes the words of a line in place of those that are here, if the bytes of the line may stand in one and its
+    /// words are at most 17, and answers whether they are. If not, the words are left as any.
     #[inline(always)]
-    pub fn of_plain(line: &'a [u8]) -> Option<Words<'a>>
-        ensures { MatchOption result (is_plain line.now ≡ false) (λ ws. (is_plain line.now ≡ true) × (ws ≡ words_of line.now)) }
+    pub fn split(&mut self, line: &'a [u8]) -> bool
+        ensures plain { result ≡ is_plain line.now }
+        ensures words { OnTrue result (self.new ≡ words_of line.now) }
     {
-        if all_printable(line) {
-            Words::of(line)
-        } else {
-            None
+        let mut count = 0;
+        let mut rest = line;
+        'words: loop {
+            let end = word_length(rest);
+            self.words[count] = &rest[..end];
+            count += 1;
+            if end == rest.len() {
+                self.count = count;
+                return true;
+            }
+            if rest[end] != b' ' || count == 17 {
+                return false;
+            }
+            rest = behind(rest, end);
         }
     }
 

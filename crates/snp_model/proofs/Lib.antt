@@ -9,11 +9,13 @@ pub mod GuestReadsLaws
 pub mod InstructionLocality
 pub mod LocalityLaws
 pub mod MemoryLaws
+pub mod MetadataLaws
 pub mod MoveLocality
 pub mod NestedReadsLaws
 pub mod OpenAttemptsLaws
 pub mod OpeningLaws
 pub mod OrderedLaws
+pub mod PageBytesLaws
 pub mod RangeLaws
 pub mod ReadingLaws
 pub mod ReadyLaws

@@ -5,7 +5,7 @@ use Rattle.std.proofs.lemmas.Bool.Decides.{nat_tests}
 use Rattle.snp_model.specs.declared.reading.Reason.TheVariants.{Form, Repeat, Guest, Range}
 use Rattle.snp_model.specs.declared.entry.PageSize.{PageSize}
 use Rattle.snp_model.specs.declared.entry.PageSize.TheVariants.{Small}
-use Rattle.std.specs.Prelude.{codes, bytes_eq, take, drop, replicate, ◌-◌, not, ◌==◌, ◌&&◌, nat_le, nat_lt, slice_get}
+use Rattle.std.specs.Prelude.{codes, bytes_eq, take, drop, replicate, if◌then◌else◌, ◌-◌, not, ◌==◌, ◌&&◌, nat_le, nat_lt, slice_get}
 use Rattle.std.specs.List.{AllByRecursion, list_any}
 use Rattle.snp_model.specs.declared.reading.Reason.{Reason}
 use Rattle.snp_model.specs.declared.item.Item.{Item}
@@ -18,7 +18,7 @@ use Rattle.snp_model.specs.declared.item.SkipTest.TheVariants.{Value}
 use Rattle.snp_model.specs.declared.scenario.Actor.{Actor}
 use Rattle.snp_model.specs.declared.scenario.GuestSpec.{GuestSpec}
 use Rattle.snp_model.specs.declared.scenario.PageSpec.{PageSpec}
-use Rattle.snp_model.specs.declared.scenario.Paging.TheVariants.{Flat, Four}
+use Rattle.snp_model.specs.declared.scenario.Paging.TheVariants.{Flat}
 use Rattle.snp_model.specs.declared.scenario.Role.{Role}
 use Rattle.snp_model.specs.declared.scenario.Role.TheVariants.{Cpu, Host, Firmware}
 use Rattle.snp_model.specs.declared.scenario.Scenario.{Scenario}
@@ -30,8 +30,9 @@ use Rattle.snp_model.specs.Lines.{◌>>=◌, ◌>>◌, cut_at, decimal, is_row, 
 use Rattle.snp_model.specs.declared.reading.Quantity.{Quantity}
 use Rattle.snp_model.specs.declared.reading.Quantity.TheVariants as quantities
 use Rattle.snp_model.specs.Reading.{Made, nothing, reading, closed, Fault, refused, is_passed_over, turns_spell, order_of, by_rule, within, fit, fit_line, fit_words, add_regions, add_guest, add_page, add_word, add_actor, add_line, add_item_of, add_item, add_order, add_words, turns_count, Makes, Valid}
-use Rattle.snp_model.specs.ScenarioLines.{frames_of, regions_row, turn_from, turn_parts, turn_of, turns_after, is_order_row, order_row, version_row, first_scenario, has_no, before_pages, before_words, before_actors, before_orders, idle, opening, opened_of, next_number, page_size, guest_row, page_row, word_row, cpu_row, tables_row, host_row, with_line, has_asid, is_opened, is_declared, apart, collide, key_of, validity}
-use Rattle.snp_model.specs.Bounds.{IsCpu, IsRole, IsSkip, IsItemOf, IsLineOf}
+use Rattle.snp_model.specs.ScenarioLines.{frames_of, regions_row, turn_from, turn_parts, turn_of, turns_after, is_order_row, order_row, version_of, version_row, first_scenario, has_five_levels, tables_at, has_no, before_pages, before_words, before_actors, before_orders, idle, opening, opened_of, next_number, page_size, guest_row, page_row, word_row, cpu_row, tables_row, host_row, with_line, has_asid, is_opened, is_declared, apart, collide, key_of, validity}
+use Rattle.snp_model.specs.Limits.{most}
+use Rattle.snp_model.specs.Bounds.{IsPaging, IsCpu, IsRole, IsSkip, IsItemOf, IsLineOf}
 use Rattle.snp_model.specs.Sound.{Pairwise, IsGuest, AsidsDiffer, IsPage, FramesDiffer, GpnsDiffer, IsWord, IsActor, IsTurn, IsSound}
 
 -- steps that gave a value
@@ -77,19 +78,21 @@ multiple_ok unit n m h =
 
 -- what a scenario under way keeps
 pub record IsDraft (c : Scenario) : Type 0 where
-  pub regions_most : c.regions ≤ 16
-  pub guests_most : length c.guests ≤ 8
+  pub version_some : 1 ≤ c.version
+  pub version_most : c.version ≤ 2
+  pub regions_most : c.regions ≤ most quantities.Regions
+  pub guests_most : length c.guests ≤ most quantities.Guests
   pub guests : AllByRecursion IsGuest c.guests
   pub asids_differ : Pairwise AsidsDiffer c.guests
   pub pages : AllByRecursion (IsPage (frames_of c) (length c.guests)) c.pages
   pub frames_differ : Pairwise FramesDiffer c.pages
   pub gpns_differ : Pairwise GpnsDiffer c.pages
   pub words : AllByRecursion (IsWord (frames_of c)) c.words
-  pub actors_most : length c.actors ≤ 32
+  pub actors_most : length c.actors ≤ most quantities.Actors
   pub actors : AllByRecursion (IsActor (frames_of c) (length c.guests)) c.actors
-  pub attempts_most : attempts_of c ≤ 8192
+  pub attempts_most : attempts_of c ≤ most quantities.Attempts
   pub order : AllByRecursion IsTurn c.order
-  pub order_most : turns_count c.order ≤ 262144
+  pub order_most : turns_count c.order ≤ most quantities.Order
 
 all_push : {X : Type 0} (P : X → Type 0) (xs : List X) (x : X) → AllByRecursion P xs → P x → AllByRecursion P (xs ++ x ∷ [])
 all_push P [] x all one = (one, tt)
@@ -295,32 +298,36 @@ cpu_row_ok c ws made h =
     cpu_chain c (next_number (length c.actors) (word ws 1)) (fixed (word ws 2) (codes "cpu")) (number (word ws 3)) (fixed (word ws 4) (codes "vmpl")) (below 4 (word ws 5)) (fixed (word ws 6) (codes "npt")) (below (frames_of c) (word ws 7)) (fixed (word ws 8) (codes "flat")) made
     (below_ok _ _) (below_ok _ _) h
 
-tables_chain : (c : Scenario) (next : Result ℕ Reason) (first : Result (Unit {0}) Reason) (guest : Result ℕ Reason) (second : Result (Unit {0}) Reason) (vmpl : Result ℕ Reason) (third : Result (Unit {0}) Reason) (npt : Result ℕ Reason) (fourth : Result (Unit {0}) Reason) (root : Result ℕ Reason) (made : Role)
+tables_below : (five : Bool) (root : ℕ) → root < 2 ^ 36 → IsPaging (tables_at five root)
+tables_below true root h = h
+tables_below false root h = h
+
+tables_chain : (c : Scenario) (next : Result ℕ Reason) (first : Result (Unit {0}) Reason) (guest : Result ℕ Reason) (second : Result (Unit {0}) Reason) (vmpl : Result ℕ Reason) (third : Result (Unit {0}) Reason) (npt : Result ℕ Reason) (levels : Result Bool Reason) (root : Result ℕ Reason) (made : Role)
     → ((n : ℕ) → vmpl ≡ Ok n → n < 4) → ((n : ℕ) → npt ≡ Ok n → n < frames_of c) → ((n : ℕ) → root ≡ Ok n → n < 2 ^ 36)
-    → (next >> (first >> (guest >>= (λ (g : ℕ). second >> (vmpl >>= (λ (v : ℕ). third >> (npt >>= (λ (n : ℕ). fourth >> (root >>= (λ (r : ℕ). require (is_declared c.guests g) Guest >> Ok (Cpu g v n (Four r)))))))))))) ≡ Ok made
+    → (next >> (first >> (guest >>= (λ (g : ℕ). second >> (vmpl >>= (λ (v : ℕ). third >> (npt >>= (λ (n : ℕ). levels >>= (λ (five : Bool). root >>= (λ (r : ℕ). require (is_declared c.guests g) Guest >> Ok (Cpu g v n (tables_at five r)))))))))))) ≡ Ok made
     → IsRole (frames_of c) (length c.guests) made
-tables_chain c (Err e) first guest second vmpl third npt fourth root made b1 b2 b3 h = absurd (cc)
-tables_chain c (Ok n) (Err e) guest second vmpl third npt fourth root made b1 b2 b3 h = absurd (cc)
-tables_chain c (Ok n) (Ok u) (Err e) second vmpl third npt fourth root made b1 b2 b3 h = absurd (cc)
-tables_chain c (Ok n) (Ok u) (Ok g) (Err e) vmpl third npt fourth root made b1 b2 b3 h = absurd (cc)
-tables_chain c (Ok n) (Ok u) (Ok g) (Ok w) (Err e) third npt fourth root made b1 b2 b3 h = absurd (cc)
-tables_chain c (Ok n) (Ok u) (Ok g) (Ok w) (Ok v) (Err e) npt fourth root made b1 b2 b3 h = absurd (cc)
-tables_chain c (Ok n) (Ok u) (Ok g) (Ok w) (Ok v) (Ok x) (Err e) fourth root made b1 b2 b3 h = absurd (cc)
+tables_chain c (Err e) first guest second vmpl third npt levels root made b1 b2 b3 h = absurd (cc)
+tables_chain c (Ok n) (Err e) guest second vmpl third npt levels root made b1 b2 b3 h = absurd (cc)
+tables_chain c (Ok n) (Ok u) (Err e) second vmpl third npt levels root made b1 b2 b3 h = absurd (cc)
+tables_chain c (Ok n) (Ok u) (Ok g) (Err e) vmpl third npt levels root made b1 b2 b3 h = absurd (cc)
+tables_chain c (Ok n) (Ok u) (Ok g) (Ok w) (Err e) third npt levels root made b1 b2 b3 h = absurd (cc)
+tables_chain c (Ok n) (Ok u) (Ok g) (Ok w) (Ok v) (Err e) npt levels root made b1 b2 b3 h = absurd (cc)
+tables_chain c (Ok n) (Ok u) (Ok g) (Ok w) (Ok v) (Ok x) (Err e) levels root made b1 b2 b3 h = absurd (cc)
 tables_chain c (Ok n) (Ok u) (Ok g) (Ok w) (Ok v) (Ok x) (Ok f) (Err e) root made b1 b2 b3 h = absurd (cc)
-tables_chain c (Ok n) (Ok u) (Ok g) (Ok w) (Ok v) (Ok x) (Ok f) (Ok y) (Err e) made b1 b2 b3 h = absurd (cc)
-tables_chain c (Ok n) (Ok u) (Ok g) (Ok w) (Ok v) (Ok x) (Ok f) (Ok y) (Ok r) made b1 b2 b3 h =
-    let role : Role = Cpu g v f (Four r) in
+tables_chain c (Ok n) (Ok u) (Ok g) (Ok w) (Ok v) (Ok x) (Ok f) (Ok five) (Err e) made b1 b2 b3 h = absurd (cc)
+tables_chain c (Ok n) (Ok u) (Ok g) (Ok w) (Ok v) (Ok x) (Ok f) (Ok five) (Ok r) made b1 b2 b3 h =
+    let role : Role = Cpu g v f (tables_at five r) in
     let final : Result Role Reason = Ok role in
     let step = then_ok (require (is_declared c.guests g) Guest) final made h in
     let same : role ≡ made = let e = step.2 in cc in
     let declared = require_ok (is_declared c.guests g) Guest step.0 step.1 in
     subst (IsRole (frames_of c) (length c.guests)) same
-    (let is : IsCpu (frames_of c) (length c.guests) g v f (Four r) = record { guest_some = grind (arith, nat_tests, declared); guest_most = grind (arith, nat_tests, declared); vmpl_below = b1 v refl; npt_below = b2 f refl; root_below = b3 r refl } in is)
+    (let is : IsCpu (frames_of c) (length c.guests) g v f (tables_at five r) = record { guest_some = grind (arith, nat_tests, declared); guest_most = grind (arith, nat_tests, declared); vmpl_below = b1 v refl; npt_below = b2 f refl; root_below = tables_below five r (b3 r refl) } in is)
 
 tables_row_ok : (c : Scenario) (ws : List (List ℕ)) (made : Role) → tables_row c ws ≡ Ok made → IsRole (frames_of c) (length c.guests) made
 unfolding tables_row
 tables_row_ok c ws made h =
-    tables_chain c (next_number (length c.actors) (word ws 1)) (fixed (word ws 2) (codes "cpu")) (number (word ws 3)) (fixed (word ws 4) (codes "vmpl")) (below 4 (word ws 5)) (fixed (word ws 6) (codes "npt")) (below (frames_of c) (word ws 7)) (fixed (word ws 8) (codes "gcr3")) (below (2 ^ 36) (word ws 9)) made
+    tables_chain c (next_number (length c.actors) (word ws 1)) (fixed (word ws 2) (codes "cpu")) (number (word ws 3)) (fixed (word ws 4) (codes "vmpl")) (below 4 (word ws 5)) (fixed (word ws 6) (codes "npt")) (below (frames_of c) (word ws 7)) (has_five_levels c.version (word ws 8)) (below (2 ^ 36) (word ws 9)) made
     (below_ok _ _) (below_ok _ _) (below_ok _ _) h
 
 host_chain : (c : Scenario) (next : Result ℕ Reason) (first : Result (Unit {0}) Reason) (made : Role) → (next >> (first >> Ok Host)) ≡ Ok made → IsRole (frames_of c) (length c.guests) made
@@ -488,21 +495,23 @@ rule_ok : {A : Type 0} (r : Result A Reason) (x : A) → by_rule r ≡ Ok x → 
 rule_ok (Ok y) x h = let e : y ≡ x = cc in ap (λ (z : _). Ok z) e
 rule_ok (Err e) x h = absurd (cc)
 
-within_ok : (quantity : Quantity) (most count : ℕ) (c : Scenario) (next : Made) → within quantity most count c ≡ Ok next → (count ≤ most) × (reading c ≡ next)
-within_ok quantity most count c next h =
-    let one = guard_ok (nat_le count most) (reading c) next _ h in
+within_ok : (quantity : Quantity) (count : ℕ) (c : Scenario) (next : Made) → within quantity count c ≡ Ok next → (count ≤ most quantity) × (reading c ≡ next)
+within_ok quantity count c next h =
+    let one = guard_ok (nat_le count (most quantity)) (reading c) next _ h in
     (grind (arith, nat_tests, one.0), one.1)
 
 regions_keep : (c : Scenario) (ws : List (List ℕ)) (next : Made) → IsDraft c → (c.regions == 0) ≡ true → add_regions c ws ≡ Ok next → IsMade next
 unfolding add_regions attempts_of
 regions_keep c ws next draft none h =
-    let row = bind_ok (by_rule (regions_row ws)) (λ (n : ℕ). within quantities.Regions 16 n (record c { regions = n })) next h in
-    let fits = within_ok quantities.Regions 16 row.0 (record c { regions = row.0 }) next row.2 in
+    let row = bind_ok (by_rule (regions_row ws)) (λ (n : ℕ). within quantities.Regions n (record c { regions = n })) next h in
+    let fits = within_ok quantities.Regions row.0 (record c { regions = row.0 }) next row.2 in
     let zero_now : c.regions ≡ 0 = grind (arith, nat_tests, none) in
     let more : frames_of c ≤ 512 * row.0 = omega arith in
     let same : length c.guests ≤ length c.guests = omega arith in
     let new : Scenario = record c { regions = row.0 } in
     subst IsMade fits.1 (let kept : IsDraft new = record {
+      version_some = draft.version_some;
+      version_most = draft.version_most;
       regions_most = fits.0;
       guests_most = draft.guests_most;
       guests = draft.guests;
@@ -521,14 +530,16 @@ regions_keep c ws next draft none h =
 guests_keep : (c : Scenario) (ws : List (List ℕ)) (next : Made) → IsDraft c → add_guest c ws ≡ Ok next → IsMade next
 unfolding add_guest attempts_of
 guests_keep c ws next draft h =
-    let row = bind_ok (by_rule (guest_row c ws)) (λ (g : GuestSpec). within quantities.Guests 8 (length c.guests + 1) (record c { guests = c.guests ++ g ∷ [] })) next h in
+    let row = bind_ok (by_rule (guest_row c ws)) (λ (g : GuestSpec). within quantities.Guests (length c.guests + 1) (record c { guests = c.guests ++ g ∷ [] })) next h in
     let facts = guest_row_ok c ws row.0 (rule_ok (guest_row c ws) row.0 row.1) in
     let new : Scenario = record c { guests = c.guests ++ row.0 ∷ [] } in
-    let fits = within_ok quantities.Guests 8 (length c.guests + 1) new next row.2 in
+    let fits = within_ok quantities.Guests (length c.guests + 1) new next row.2 in
     let longer : length (c.guests ++ row.0 ∷ []) ≡ length c.guests + 1 = length-append c.guests (row.0 ∷ []) in
     let more : length c.guests ≤ length (c.guests ++ row.0 ∷ []) = omega arith in
     let same : frames_of c ≤ frames_of c = omega arith in
     subst IsMade fits.1 (let kept : IsDraft new = record {
+      version_some = draft.version_some;
+      version_most = draft.version_most;
       regions_most = draft.regions_most;
       guests_most = let most = fits.0 in omega arith;
       guests = all_push IsGuest c.guests row.0 draft.guests facts.is;
@@ -552,6 +563,8 @@ pages_keep c ws next draft h =
     let new : Scenario = record c { pages = c.pages ++ row.0 ∷ [] } in
     let same : reading new ≡ next = let e = row.2 in cc in
     subst IsMade same (let kept : IsDraft new = record {
+      version_some = draft.version_some;
+      version_most = draft.version_most;
       regions_most = draft.regions_most;
       guests_most = draft.guests_most;
       guests = draft.guests;
@@ -575,6 +588,8 @@ words_keep c ws next draft h =
     let new : Scenario = record c { words = c.words ++ row.0 ∷ [] } in
     let same : reading new ≡ next = let e = row.2 in cc in
     subst IsMade same (let kept : IsDraft new = record {
+      version_some = draft.version_some;
+      version_most = draft.version_most;
       regions_most = draft.regions_most;
       guests_most = draft.guests_most;
       guests = draft.guests;
@@ -599,12 +614,14 @@ attempts_push (actor ∷ actors) role = ap (λ (n : ℕ). script_attempts actor.
 actors_keep : (c : Scenario) (row : Result Role Reason) (next : Made) → IsDraft c → ((role : Role) → row ≡ Ok role → IsRole (frames_of c) (length c.guests) role) → add_actor c row ≡ Ok next → IsMade next
 unfolding add_actor attempts_of
 actors_keep c row next draft are h =
-    let made = bind_ok (by_rule row) (λ (r : Role). within quantities.Actors 32 (length c.actors + 1) (record c { actors = c.actors ++ idle r ∷ [] })) next h in
+    let made = bind_ok (by_rule row) (λ (r : Role). within quantities.Actors (length c.actors + 1) (record c { actors = c.actors ++ idle r ∷ [] })) next h in
     let row_is = rule_ok row made.0 made.1 in
     let new : Scenario = record c { actors = c.actors ++ idle made.0 ∷ [] } in
-    let fits = within_ok quantities.Actors 32 (length c.actors + 1) new next made.2 in
+    let fits = within_ok quantities.Actors (length c.actors + 1) new next made.2 in
     let longer : length (c.actors ++ idle made.0 ∷ []) ≡ length c.actors + 1 = length-append c.actors (idle made.0 ∷ []) in
     subst IsMade fits.1 (let kept : IsDraft new = record {
+      version_some = draft.version_some;
+      version_most = draft.version_most;
       regions_most = draft.regions_most;
       guests_most = draft.guests_most;
       guests = draft.guests;
@@ -615,7 +632,7 @@ actors_keep c row next draft are h =
       words = draft.words;
       actors_most = let most = fits.0 in omega arith;
       actors = all_push (IsActor (frames_of c) (length c.guests)) c.actors (idle made.0) draft.actors (record { role = are made.0 row_is; script = tt });
-      attempts_most = subst (λ (n : ℕ). n ≤ 8192) (sym (attempts_push c.actors made.0)) draft.attempts_most;
+      attempts_most = subst (λ (n : ℕ). n ≤ most quantities.Attempts) (sym (attempts_push c.actors made.0)) draft.attempts_most;
       order = draft.order;
       order_most = draft.order_most;
     } in kept)
@@ -623,10 +640,12 @@ actors_keep c row next draft are h =
 orders_keep : (c : Scenario) (ws : List (List ℕ)) (next : Made) → IsDraft c → add_order c ws ≡ Ok next → IsMade next
 unfolding add_order order_row attempts_of
 orders_keep c ws next draft h =
-    let row = bind_ok (by_rule (order_row ws)) (λ (ts : List Turn). within quantities.Order 262144 (turns_count (c.order ++ ts)) (record c { order = c.order ++ ts })) next h in
+    let row = bind_ok (by_rule (order_row ws)) (λ (ts : List Turn). within quantities.Order (turns_count (c.order ++ ts)) (record c { order = c.order ++ ts })) next h in
     let new : Scenario = record c { order = c.order ++ row.0 } in
-    let fits = within_ok quantities.Order 262144 (turns_count (c.order ++ row.0)) new next row.2 in
+    let fits = within_ok quantities.Order (turns_count (c.order ++ row.0)) new next row.2 in
     subst IsMade fits.1 (let kept : IsDraft new = record {
+      version_some = draft.version_some;
+      version_most = draft.version_most;
       regions_most = draft.regions_most;
       guests_most = draft.guests_most;
       guests = draft.guests;
@@ -656,11 +675,13 @@ items_keep c ws (Some last) next is draft h =
     let line = bind_ok (by_rule (item_words last.role (frames_of c) ws)) (λ (l : Line). add_line c last l) next h in
     let one = item_ok (frames_of c) last.role ws line.0 (rule_ok (item_words last.role (frames_of c) ws) line.0 line.1) in
     let new : Scenario = record c { actors = with_line c.actors line.0 last } in
-    let fits = within_ok quantities.Attempts 8192 (attempts_of new) new next line.2 in
+    let fits = within_ok quantities.Attempts (attempts_of new) new next line.2 in
     let old = at_end (IsActor (frames_of c) (length c.guests)) c.actors (length c.actors - 1) last draft.actors is in
     let more : Actor = record last { script = last.script ++ line.0 ∷ [] } in
     let same_length = with_line_length c.actors line.0 last is in
     subst IsMade fits.1 (let kept : IsDraft new = record {
+      version_some = draft.version_some;
+      version_most = draft.version_most;
       regions_most = draft.regions_most;
       guests_most = draft.guests_most;
       guests = draft.guests;
@@ -688,6 +709,8 @@ unfolding order_of
 draft_sound c draft some =
     record {
       regions_some = some;
+      version_some = draft.version_some;
+      version_most = draft.version_most;
       regions_most = draft.regions_most;
       guests_most = draft.guests_most;
       guests = draft.guests;
@@ -700,7 +723,7 @@ draft_sound c draft some =
       actors = draft.actors;
       attempts_most = draft.attempts_most;
       order = draft.order;
-      order_most = subst (λ (n : ℕ). n ≤ 262144) (sym (turns_length c.order)) draft.order_most;
+      order_most = subst (λ (n : ℕ). n ≤ most quantities.Order) (sym (turns_length c.order)) draft.order_most;
     }
 
 item_keeps : (c : Scenario) (ws : List (List ℕ)) (next : Made) → IsDraft c → add_item c ws ≡ Ok next → IsMade next
@@ -749,9 +772,32 @@ line_keeps c ws next draft h =
     ended : (c : Scenario) (next : Made) → IsDraft c → not (c.regions == 0) ≡ true → (let r : Result Made Fault = Ok (closed c) in r) ≡ Ok next → IsMade next
     ended c next draft some h = let same : closed c ≡ next = cc in subst IsMade same (draft_sound c draft (grind (arith, nat_tests, some)))
 
-first_draft : IsDraft first_scenario
+-- a version is 1 or 2
+abbrev IsVersion : ℕ → Type 0
+IsVersion version = (1 ≤ version) × (version ≤ 2)
+
+version_word_ok : (w : List ℕ) (version : ℕ) → version_of w ≡ Ok version → IsVersion version
+unfolding version_of
+version_word_ok w version h =
+    let two : Result ℕ Reason = if bytes_eq w (codes "2") then Ok 2 else Err Form in
+    let is : Result ℕ Reason = Ok 1 in
+    select (bytes_eq w (codes "1")) is two version (IsVersion version)
+    (λ one said. let same : 1 ≡ version = cc in subst IsVersion same (omega arith, omega arith))
+    (λ other said. let same = guard_ok (bytes_eq w (codes "2")) 2 version Form said in subst IsVersion same.1 (omega arith, omega arith)) h
+
+version_row_ok : (ws : List (List ℕ)) (version : ℕ) → version_row ws ≡ Ok version → IsVersion version
+unfolding version_row
+version_row_ok ws version h =
+    let other : Result ℕ Reason = Err Form in
+    select (is_row ws (codes "snp") 2) (version_of (word ws 1)) other version (IsVersion version)
+    (λ first said. version_word_ok (word ws 1) version said)
+    (λ late said. absurd (cc)) h
+
+first_draft : (version : ℕ) → 1 ≤ version → version ≤ 2 → IsDraft (first_scenario version)
 unfolding attempts_of actors_attempts turns_count
-first_draft = record {
+first_draft version some most = record {
+  version_some = some;
+  version_most = most;
   regions_most = omega arith;
   guests_most = omega arith;
   guests = tt;
@@ -769,10 +815,10 @@ first_draft = record {
 
 words_fit_keeps : (made : Made) (ws : List (List ℕ)) (next : Made) → IsMade made → fit_words made ws ≡ Ok next → IsMade next
 words_fit_keeps nothing ws next is h =
-    let first : Result Made Fault = Ok (reading first_scenario) in
-    let step = then_ok (by_rule (version_row ws)) first next h in
-    let same : reading first_scenario ≡ next = let e = step.2 in cc in
-    subst IsMade same first_draft
+    let step = bind_ok (by_rule (version_row ws)) (λ (version : ℕ). let r : Result Made Fault = Ok (reading (first_scenario version)) in r) next h in
+    let same : reading (first_scenario step.0) ≡ next = let e = step.2 in cc in
+    let version = version_row_ok ws step.0 (rule_ok (version_row ws) step.0 step.1) in
+    subst IsMade same (first_draft step.0 version.0 version.1)
 words_fit_keeps (reading c) ws next is h = line_keeps c ws next is h
 words_fit_keeps (closed c) ws next is h = absurd (cc)
 

@@ -22,4 +22,4 @@ lines_of m = lines_from m.contents.contexts 1 m.guests
 
 -- the bytes of the report
 unfoldable pub report_of : Scenario → List ℕ → List ℕ
-report_of scenario schedule = report_text (run_of scenario schedule) (lines_of (state_after scenario schedule))
+report_of scenario schedule = report_text scenario.version (run_of scenario schedule) (lines_of (state_after scenario schedule))

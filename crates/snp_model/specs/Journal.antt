@@ -1,9 +1,9 @@
--- What a journal shows. This project's own.
+-- What contracts see of a journal. This project's own.
 use Rattle.std.specs.Prelude.{ℕ, List, map}
 use Rattle.snp_model.specs.declared.event.Event.{Event}
 
 -- the actors and their events, the oldest first, and how many there may be
-pub record Entries : Type 0 where
+pub record JournalImage : Type 0 where
   pub list : List (ℕ × Event)
   pub room : ℕ
 

@@ -19,10 +19,12 @@ pub mod Gcm
 pub mod GuestMemory
 pub mod GuestReads
 pub mod GuestWalk
+pub mod HeldContexts
 pub mod Holders
 pub mod InstructionStep
 pub mod ItemLines
 pub mod Journal
+pub mod Limits
 pub mod Lines
 pub mod Live
 pub mod Locks
@@ -37,7 +39,9 @@ pub mod Operations
 pub mod Outcomes
 pub mod Outside
 pub mod PageStates
+pub mod Past
 pub mod Polynomials
+pub mod Premises
 pub mod Reading
 pub mod Ready
 pub mod RegionWords
@@ -53,6 +57,7 @@ pub mod State
 pub mod Step
 pub mod Texts
 pub mod Touches
+pub mod Uniqueness
 pub mod Validation
 pub mod Verdicts
 pub mod Walking

@@ -1,5 +1,5 @@
 -- Metadata entries, byte for byte, and the sealing of pages under a guest's context (this project's own; AES-256-GCM is that of NIST SP 800-38D).
-use Rattle.std.specs.Prelude.{ℕ, zero, suc, ◌+◌, ◌*◌, ◌/◌, ◌==◌, Bool, true, false, not, if◌then◌else◌, List, [], ◌∷◌, ◌++◌, length, take, drop, replicate, slice_index, Option, Some, None, Result, Ok, Err, bytes_eq}
+use Rattle.std.specs.Prelude.{◌≡◌, ℕ, zero, suc, ◌+◌, ◌*◌, ◌/◌, ◌^◌, ◌<◌, ◌==◌, Bool, true, false, not, if◌then◌else◌, List, [], ◌∷◌, ◌++◌, length, take, drop, replicate, slice_index, Option, Some, None, Result, Ok, Err, bytes_eq}
 use Rattle.std.specs.Int.{w16, w64, to_le_bytes, from_le_bytes}
 use Rattle.std.specs.List.{list_all, range_with_len}
 use Rattle.snp_model.specs.declared.entry.RmpEntry.{RmpEntry}
@@ -55,6 +55,21 @@ entry_from bytes =
       tag = take 16 (drop 32 bytes);
     })
     else None
+
+-- each of these numbers is a byte
+abbrev pub AreBytes : List ℕ → Type 0
+AreBytes bytes = (i : ℕ) → slice_index bytes i < 2 ^ 8
+
+-- the fields of an entry are in their ranges
+pub record IsMetaEntry (entry : MetaEntry) : Type 0 where
+  pub kind : entry.kind < 2 ^ 8
+  pub asid : entry.asid < 2 ^ 16
+  pub gpn : entry.gpn < 2 ^ 64
+  pub perms_count : length entry.perms ≡ 4
+  pub perms : AreBytes entry.perms
+  pub iv : entry.iv < 2 ^ 64
+  pub tag_count : length entry.tag ≡ 16
+  pub tag : AreBytes entry.tag
 
 -- the eight words of an entry of a page
 unfoldable pub slot : List ℕ → ℕ → List ℕ

@@ -80,7 +80,11 @@ guest_lines (guest ∷ guests) = line (guest_text guest) ++ guest_lines guests
 unfoldable pub end_text : ℕ → List ℕ
 end_text count = codes "end " ++ decimal count
 
--- a report of these events and guests
-unfoldable pub report_text : List (ℕ × Event) → List GuestLine → List ℕ
-report_text entries guests =
-    line (codes "snp-report 1") ++ (event_lines 0 entries ++ (order_lines (runs_of (actors_of entries)) ++ (guest_lines guests ++ line (end_text (length entries)))))
+-- the first line, with the version
+unfoldable pub head_text : ℕ → List ℕ
+head_text version = codes "snp-report " ++ decimal version
+
+-- a report of this version, of these events and guests
+unfoldable pub report_text : ℕ → List (ℕ × Event) → List GuestLine → List ℕ
+report_text version entries guests =
+    line (head_text version) ++ (event_lines 0 entries ++ (order_lines (runs_of (actors_of entries)) ++ (guest_lines guests ++ line (end_text (length entries)))))

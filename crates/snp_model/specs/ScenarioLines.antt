@@ -13,7 +13,8 @@ use Rattle.snp_model.specs.declared.scenario.Turn.{Turn}
 use Rattle.snp_model.specs.declared.scenario.Actor.{Actor}
 use Rattle.snp_model.specs.declared.scenario.Role.{Role}
 use Rattle.snp_model.specs.declared.scenario.Role.TheVariants.{Cpu, Host}
-use Rattle.snp_model.specs.declared.scenario.Paging.TheVariants.{Flat, Four}
+use Rattle.snp_model.specs.declared.scenario.Paging.{Paging}
+use Rattle.snp_model.specs.declared.scenario.Paging.TheVariants.{Flat, Four, Five}
 use Rattle.snp_model.specs.declared.item.Line.{Line}
 use Rattle.snp_model.specs.Lines.{◌>>=◌, ◌>>◌, require, word, is_row, is_hex_digit, digit_value, decimal, cut_at, fixed, number, ranged, below}
 
@@ -37,13 +38,17 @@ before_words c = before_actors c && has_no c.words
 abbrev pub before_pages : Scenario → Bool
 before_pages c = before_words c && has_no c.pages
 
--- what the line `snp 1` makes
-abbrev pub first_scenario : Scenario
-first_scenario = record { regions = 0; guests = []; pages = []; words = []; actors = []; order = [] }
+-- what the first line, of this version, makes
+abbrev pub first_scenario : ℕ → Scenario
+first_scenario version = record { version = version; regions = 0; guests = []; pages = []; words = []; actors = []; order = [] }
 
--- `snp 1`
-unfoldable pub version_row : List (List ℕ) → Result (Unit {0}) Reason
-version_row ws = if is_row ws (codes "snp") 2 then fixed (word ws 1) (codes "1") else Err Form
+-- `1` or `2`
+unfoldable pub version_of : List ℕ → Result ℕ Reason
+version_of w = if bytes_eq w (codes "1") then Ok 1 else if bytes_eq w (codes "2") then Ok 2 else Err Form
+
+-- `snp 1`, `snp 2`
+unfoldable pub version_row : List (List ℕ) → Result ℕ Reason
+version_row ws = if is_row ws (codes "snp") 2 then version_of (word ws 1) else Err Form
 
 -- `regions N`
 unfoldable pub regions_row : List (List ℕ) → Result ℕ Reason
@@ -152,7 +157,18 @@ cpu_row c ws = do
   require (is_declared c.guests guest) Guest
   Ok (Cpu guest vmpl npt Flat)
 
--- `actor N cpu G vmpl V npt F gcr3 P`
+-- whether guest tables have five levels and not four: `gcr3` says four, and `la57` in version 2 five
+unfoldable pub has_five_levels : ℕ → List ℕ → Result Bool Reason
+has_five_levels version w =
+    if bytes_eq w (codes "gcr3") then Ok false
+    else if bytes_eq w (codes "la57") && (version == 2) then Ok true
+    else Err Form
+
+-- guest tables with so many levels that begin at this guest page number
+abbrev pub tables_at : Bool → ℕ → Paging
+tables_at five root = if five then Five root else Four root
+
+-- `actor N cpu G vmpl V npt F gcr3 P`, and in version 2 `actor N cpu G vmpl V npt F la57 P`
 unfoldable pub tables_row : Scenario → List (List ℕ) → Result Role Reason
 tables_row c ws = do
   next_number (length c.actors) (word ws 1)
@@ -162,10 +178,10 @@ tables_row c ws = do
   vmpl ← below 4 (word ws 5)
   fixed (word ws 6) (codes "npt")
   npt ← below (frames_of c) (word ws 7)
-  fixed (word ws 8) (codes "gcr3")
+  five ← has_five_levels c.version (word ws 8)
   root ← below (2 ^ 36) (word ws 9)
   require (is_declared c.guests guest) Guest
-  Ok (Cpu guest vmpl npt (Four root))
+  Ok (Cpu guest vmpl npt (tables_at five root))
 
 -- `actor N host`
 unfoldable pub host_row : Scenario → List (List ℕ) → Result Role Reason

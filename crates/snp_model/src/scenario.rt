@@ -90,6 +90,8 @@ pub struct Turn {
 /// The opening of a run: memory, guests, actors and, for `replay`, the schedule.
 #[derive(Debug, Drop, PartialEq, Eq)]
 pub struct Scenario {
+    /// The version of its text and of its report, 1 or 2. Guest tables of five levels stand in version 2 alone.
+    pub version: u8,
     /// Regions of 512 frames, 1 to 16.
     pub regions: u32,
     /// The guests, at most 8. Guest 1 is the first.

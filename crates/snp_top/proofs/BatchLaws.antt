@@ -31,12 +31,12 @@ use Rattle.snp_top.specs.Schedule.{IsFirstBad}
 use Rattle.snp_model.proofs.FindingLaws.{one_finding}
 
 -- what is written of a replay is the report of its scenario
-played_report : (c : Scenario) (played : Played) → IsPlayed c played → report_text played.journal.list played.guests.items ≡ report_of c (order_of c)
+played_report : (c : Scenario) (played : Played) → IsPlayed c played → report_text played.version played.journal.list played.guests.items ≡ report_of c (order_of c)
 unfolding report_of
-played_report c played is = λ i. report_text (is.events i) (is.guests i)
+played_report c played is = λ i. report_text (is.version i) (is.events i) (is.guests i)
 
 pub explains_report : (answer : Answer) (words : List (List ℕ)) (before now : Outside) (played : Played) → are_words words ≡ true → ReplaysTo before.left now.left (let r : Result Played ReplayFault = Ok played in r)
-    → ReportsTo before.written now.written before.write_faults now.write_faults (report_text played.journal.list played.guests.items) answer → Explains answer words before now
+    → ReportsTo before.written now.written before.write_faults now.write_faults (report_text played.version played.journal.list played.guests.items) answer → Explains answer words before now
 explains_report answers.Done words before now played fits replays reports = (fits, said before.left replays)
   where
     said : (left : Option (List ℕ)) → ReplaysTo left now.left (let r : Result Played ReplayFault = Ok played in r) → IfSome left (λ text. (now.left ≡ Some []) × SaysOne text (λ c. IsDefined c (order_of c) × Adds before.written now.written (report_of c (order_of c))))

@@ -5,7 +5,7 @@ use Rattle.snp_model.specs.declared.scenario.GuestSpec.{GuestSpec}
 use Rattle.snp_model.specs.declared.scenario.Scenario.{Scenario}
 use Rattle.snp_model.specs.Attempts.{actors_attempts, attempts_of}
 use Rattle.snp_model.specs.Ending.{guest_line, lines_from}
-use Rattle.snp_model.specs.Journal.{Entries}
+use Rattle.snp_model.specs.Journal.{JournalImage}
 use Rattle.snp_model.specs.Opening.{opening}
 use Rattle.snp_model.specs.Reading.{turns_spell, order_of}
 use Rattle.snp_model.specs.Run.{state_from}
@@ -48,10 +48,10 @@ state_guests m [] = refl
 state_guests m (actor ∷ actors) = state_guests (after m actor) actors ∙ after_guests m actor
 
 -- the opening machine's journal has room
-pub opening_has_room : (c : Scenario) (m : State) (journal : Entries) (attempts : ℕ) → m ≡ opening c → attempts ≡ actors_attempts c.actors → journal ≡ (let j : Entries = record { list = []; room = 32 * attempts } in j) → HasRoom m journal
+pub opening_has_room : (c : Scenario) (m : State) (journal : JournalImage) (attempts : ℕ) → m ≡ opening c → attempts ≡ actors_attempts c.actors → journal ≡ (let j : JournalImage = record { list = []; room = 32 * attempts } in j) → HasRoom m journal
 unfolding attempts_of
 opening_has_room c m journal attempts opens counted empty =
-    subst (λ (j : Entries). HasRoom m j) (sym empty) (subst (λ (k : State). HasRoom k (record { list = []; room = 32 * attempts })) (sym opens)
+    subst (λ (j : JournalImage). HasRoom m j) (sym empty) (subst (λ (k : State). HasRoom k (record { list = []; room = 32 * attempts })) (sym opens)
     (record { bounded = opening_are c; room = let most = opening_room c in omega (arith, most, counted) }))
 
 -- the schedule of a sound scenario is short

@@ -5,7 +5,7 @@ use Rattle.std.proofs.lemmas.List.{length-append, append-nil}
 use Rattle.std.specs.Prelude.{slice_get}
 use Rattle.snp_model.specs.declared.event.Event.{Event}
 use Rattle.snp_model.specs.declared.scenario.Turn.{Turn}
-use Rattle.snp_model.specs.Journal.{Entries}
+use Rattle.snp_model.specs.Journal.{JournalImage}
 use Rattle.snp_model.specs.Reading.{turns_spell}
 use Rattle.snp_model.specs.Run.{IsDefinedFrom, run_from, state_from}
 use Rattle.snp_model.specs.State.{State, IsUnfinished}
@@ -15,14 +15,14 @@ use Rattle.snp_model.proofs.RunLaws.{run_append, state_append, defined_append, r
 use Rattle.snp_top.specs.Schedule.{HasRoom, IsFirstBad, Plays}
 
 -- an unfinished actor's event has room
-pub room_left : (m : State) (journal : Entries) (actor : ℕ) → HasRoom m journal → IsUnfinished m actor → length journal.list < journal.room
+pub room_left : (m : State) (journal : JournalImage) (actor : ℕ) → HasRoom m journal → IsUnfinished m actor → length journal.list < journal.room
 room_left m journal actor has unfinished =
     let lowers = step_lowers m actor has.bounded unfinished in
     let less = lowers.less in
     let room = has.room in
     omega arith
 
-pub room_more : (m new : State) (journal now : Entries) (actor : ℕ) (event : Event) → HasRoom m journal → IsUnfinished m actor → now.list ≡ journal.list ++ (actor, event) ∷ [] → now.room ≡ journal.room → new ≡ after m actor → HasRoom new now
+pub room_more : (m new : State) (journal now : JournalImage) (actor : ℕ) (event : Event) → HasRoom m journal → IsUnfinished m actor → now.list ≡ journal.list ++ (actor, event) ∷ [] → now.room ≡ journal.room → new ≡ after m actor → HasRoom new now
 room_more m new journal now actor event has unfinished adds same becomes =
     let lowers = step_lowers m actor has.bounded unfinished in
     let less = lowers.less in
@@ -30,11 +30,11 @@ room_more m new journal now actor event has unfinished adds same becomes =
     let longer : length now.list ≡ length journal.list + 1 = ap length adds ∙ length-append journal.list ((actor, event) ∷ []) in
     subst (λ (n : State). HasRoom n now) (sym becomes) (record { bounded = lowers.bounded; room = omega arith })
 
-pub plays_none : (m : State) (journal : Entries) → Plays m [] journal journal m
+pub plays_none : (m : State) (journal : JournalImage) → Plays m [] journal journal m
 plays_none m journal =
     record { defined = defined_none m; events = sym (append-nil journal.list) ∙ ap (λ (events : List (ℕ × Event)). journal.list ++ events) (sym (run_none m)); room = refl; state = sym (state_none m) }
 
-pub plays_more : (m n new : State) (s : List ℕ) (before journal now : Entries) (actor : ℕ) (event : Event) → Plays m s before journal n → IsUnfinished n actor
+pub plays_more : (m n new : State) (s : List ℕ) (before journal now : JournalImage) (actor : ℕ) (event : Event) → Plays m s before journal n → IsUnfinished n actor
     → event ≡ event_of n actor → now.list ≡ journal.list ++ (actor, event) ∷ [] → now.room ≡ journal.room → new ≡ after n actor → Plays m (s ++ actor ∷ []) before now new
 plays_more m n new s before journal now actor event plays unfinished makes adds same becomes =
     let made : (actor, event) ∷ [] ≡ (actor, event_of (state_from m s) actor) ∷ [] = ap (λ (e : Event). (actor, e) ∷ []) (makes ∙ ap (λ (k : State). event_of k actor) plays.state) in
@@ -45,7 +45,7 @@ plays_more m n new s before journal now actor event plays unfinished makes adds 
       state = becomes ∙ ap (λ (k : State). after k actor) plays.state ∙ sym (state_push m s actor);
     }
 
-pub plays_append : (m n new : State) (s t : List ℕ) (before journal now : Entries) → Plays m s before journal n → Plays n t journal now new → Plays m (s ++ t) before now new
+pub plays_append : (m n new : State) (s t : List ℕ) (before journal now : JournalImage) → Plays m s before journal n → Plays n t journal now new → Plays m (s ++ t) before now new
 plays_append m n new s t before journal now first second =
     record {
       defined = defined_append m s t first.defined (subst (λ (k : State). IsDefinedFrom k t) first.state second.defined);
@@ -111,7 +111,7 @@ take_copies (suc count) zero a rest within = refl
 take_copies (suc count) (suc made) a rest within = ap (λ (l : List ℕ). a ∷ l) (take_copies count made a rest (omega arith))
 
 -- the entry at which a turn stops
-pub first_bad : (m n : State) (s front rest : List ℕ) (count made actor entry : ℕ) (before now : Entries)
+pub first_bad : (m n : State) (s front rest : List ℕ) (count made actor entry : ℕ) (before now : JournalImage)
     → s ≡ front ++ (replicate count actor ++ rest) → made < count → entry ≡ length front → Plays m (front ++ replicate made actor) before now n → (IsUnfinished n actor → ⊥)
     → IsFirstBad m s (entry + made) actor
 first_bad m n s front rest count made actor entry before now whole few place plays bad =

@@ -11,9 +11,10 @@ use Rattle.snp_top.specs.declared.replay.ReplayFault.{ReplayFault}
 use Rattle.snp_top.specs.declared.replay.ReplayFault.TheVariants as faults
 use Rattle.snp_top.specs.Schedule.{IsFirstBad}
 
--- the schedule of a scenario makes a run, and these are its events and its guests at the end
+-- the schedule of a scenario makes a run, and these are its version, its events and its guests at the end
 pub record IsPlayed (c : Scenario) (played : Played) : Type 0 where
   pub defined : IsDefined c (order_of c)
+  pub version : played.version ≡ c.version
   pub events : played.journal.list ≡ run_of c (order_of c)
   pub guests : played.guests.items ≡ lines_of (state_after c (order_of c))
 

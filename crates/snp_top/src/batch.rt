@@ -173,10 +173,11 @@ fn schedule_line(turn: BadTurn, out: &mut [u8; 64]) -> usize
 
 // Writes the report of a replay.
 fn report<K: Sink>(played: &Played, sink: &mut K) -> Answer
-    requires { length played.now.journal.list < 2 ^ 32 }
-    ensures { ReportsTo (K.written sink.old) (K.written sink.new) (K.faults sink.old) (K.faults sink.new) (report_text played.now.journal.list played.now.guests.items) result }
+    requires version { (1 ≤ played.now.version) × (played.now.version ≤ 2) }
+    requires short { length played.now.journal.list < 2 ^ 32 }
+    ensures { ReportsTo (K.written sink.old) (K.written sink.new) (K.faults sink.old) (K.faults sink.new) (report_text played.now.version played.now.journal.list played.now.guests.items) result }
 {
-    match write_report(&played.journal, &played.guests, sink) {
+    match write_report(played.version, &played.journal, &played.guests, sink) {
         Ok(()) => Answer::Done,
         Err(_) => Answer::Write,
     }

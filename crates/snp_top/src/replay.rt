@@ -15,9 +15,10 @@ use scenario_text::{ScenarioFault, read_scenario};
 use snp_model::{Actor, GuestLine, Line, Scenario};
 use std::alloc::{AllocError, Global};
 
-/// A scenario that was replayed: its events, and its guests at the end.
+/// A scenario that was replayed: its version, its events, and its guests at the end.
 #[derive(Drop)]
 pub struct Played {
+    pub version: u8,
     pub journal: Journal,
     pub guests: Vec<GuestLine>,
 }
@@ -49,6 +50,7 @@ impl From<AllocError> for ReplayFault {
 /// Reads a scenario from a source, and runs its schedule.
 pub fn replay<S: Source>(alloc: Global, source: &mut S) -> Result<Played, ReplayFault>
     ensures answer { ReplaysTo (S.left source.old) (S.left source.new) result }
+    ensures version { IfOk result (λ played. (1 ≤ played.version) × (played.version ≤ 2)) }
     ensures short { IfOk result (λ played. length played.journal.list ≤ 262_144) }
     ensures failed { IfErr result (HasFailed (S.faults source.old) (S.faults source.new)) }
     ensures later { S.faults source.old ≤ S.faults source.new }
@@ -71,6 +73,7 @@ pub fn replay<S: Source>(alloc: Global, source: &mut S) -> Result<Played, Replay
 pub fn run(alloc: Global, scenario: &Scenario) -> Result<Played, ReplayFault>
     requires { Valid scenario.now }
     ensures answer { RunsTo scenario.now result }
+    ensures version { IfOk result (λ played. (1 ≤ played.version) × (played.version ≤ 2)) }
     ensures short { IfOk result (λ played. length played.journal.list ≤ 262_144) }
 {
     let mut machine = Machine::build(alloc, scenario)?;
@@ -80,7 +83,11 @@ pub fn run(alloc: Global, scenario: &Scenario) -> Result<Played, ReplayFault>
     match play(&mut machine, &mut journal, scenario.order.as_slice()) {
         Ok(()) => {
             take_guests(&machine, &mut guests);
-            Ok(Played { journal, guests })
+            Ok(Played {
+                version: scenario.version,
+                journal,
+                guests,
+            })
         }
         Err(turn) => Err(ReplayFault::Schedule(turn)),
     }

@@ -15,4 +15,4 @@ pub returns-clause-ready : goal.returns-clause-ready
 returns-clause-ready c = λ scenario schedule valid defined. run_ready scenario schedule (valid_is_sound scenario valid) defined
 
 pub returns-clause-holders : goal.returns-clause-holders
-returns-clause-holders c = λ scenario schedule guest valid some most. state_keeps_core scenario schedule (valid_is_sound scenario valid) guest some most
+returns-clause-holders c = λ scenario schedule archive guest valid some most. state_keeps_core scenario schedule archive (valid_is_sound scenario valid) guest some most

@@ -1,10 +1,10 @@
-use Rattle.std.proofs.Common.{◌≡◌, ◌++◌, ℕ, List, [], length, vec_capacity, ap, ◌∙◌, subst, arith}
+use Rattle.std.proofs.Common.{◌≡◌, ◌++◌, ℕ, List, [], length, vec_capacity, refl, ap, ◌∙◌, subst, arith}
 use Rattle.machine_core.specs.Machine.{state_of}
 use Rattle.snp_model.specs.declared.event.Event.{Event}
 use Rattle.snp_model.specs.declared.scenario.Turn.{Turn}
 use Rattle.snp_model.specs.Attempts.{actors_attempts}
 use Rattle.snp_model.specs.Ending.{lines_of}
-use Rattle.snp_model.specs.Journal.{Entries}
+use Rattle.snp_model.specs.Journal.{JournalImage}
 use Rattle.snp_model.specs.Opening.{opening}
 use Rattle.snp_model.specs.Reading.{turns_spell, order_of}
 use Rattle.snp_model.specs.Run.{IsDefinedFrom, run_from, state_from}
@@ -56,9 +56,10 @@ returns-in-Ok-clause-answer c =
     let plays : Plays m (turns_spell c.as_slice-2.result.now) c.in_ok-journal.journal c.play.new.journal n = c.in-Ok.ensures.played in
     let opens : m ≡ opening scenario = c.in_ok-machine.ensures in
     let order : turns_spell c.as_slice-2.result.now ≡ turns_spell scenario.order = ap turns_spell c.as_slice-2.ensures in
-    let empty : c.in_ok-journal.journal.list ≡ [] = ap (λ (j : Entries). j.list) c.in_ok-journal.ensures in
+    let empty : c.in_ok-journal.journal.list ≡ [] = ap (λ (j : JournalImage). j.list) c.in_ok-journal.ensures in
     record {
       defined = subst (λ (k : State). IsDefinedFrom k (turns_spell scenario.order)) opens (subst (λ (s : List ℕ). IsDefinedFrom m s) order plays.defined);
+      version = refl;
       events = plays.events ∙ ap (λ (l : List (ℕ × Event)). l ++ run_from m (turns_spell c.as_slice-2.result.now)) empty ∙ (λ i. run_from (opens i) (order i));
       guests = c.take_guests.ensures ∙ ap lines_of (plays.state ∙ (λ i. state_from (opens i) (order i)));
     }
@@ -78,8 +79,13 @@ returns-in-Ok-clause-short c =
     let m = state_of c.in_ok-machine.machine in
     let n = state_of c.play.new.machine in
     let plays : Plays m (turns_spell c.as_slice-2.result.now) c.in_ok-journal.journal c.play.new.journal n = c.in-Ok.ensures.played in
-    let empty : c.in_ok-journal.journal.list ≡ [] = ap (λ (j : Entries). j.list) c.in_ok-journal.ensures in
+    let empty : c.in_ok-journal.journal.list ≡ [] = ap (λ (j : JournalImage). j.list) c.in_ok-journal.ensures in
     let events : c.play.new.journal.list ≡ run_from m (turns_spell c.as_slice-2.result.now) = plays.events ∙ ap (λ (l : List (ℕ × Event)). l ++ run_from m (turns_spell c.as_slice-2.result.now)) empty in
     let lengths : length c.play.new.journal.list ≡ length (turns_spell scenario.order) = ap length events ∙ length_run m (turns_spell c.as_slice-2.result.now) ∙ ap (λ (ts : List Turn). length (turns_spell ts)) c.as_slice-2.ensures in
     let short = order_short scenario (valid_is_sound scenario c.requires) in
     omega arith
+
+pub returns-in-Ok-clause-version : goal.returns-in-Ok-clause-version
+returns-in-Ok-clause-version c =
+    let sound = valid_is_sound c.args.scenario.now c.requires in
+    (sound.version_some, sound.version_most)

@@ -1,6 +1,6 @@
 use Rattle.std.proofs.Common.{◌≡◌, ◌<◌, ℕ, ◌∷◌, [], ◌++◌, List, length, vec_capacity, refl, ap, ◌∙◌, arith}
 use Rattle.snp_model.specs.declared.event.Event.{Event}
-use Rattle.snp_model.specs.Journal.{Entries}
+use Rattle.snp_model.specs.Journal.{JournalImage}
 use Rattle.run_journal.specs.declared.short.Short.{Short}
 use Rattle.run_journal.specs.Shorts.{entries_of}
 use Rattle.run_journal.proofs.ShortLaws.{shorts_more, entries_more, length_entries}
@@ -10,8 +10,8 @@ pub invariant_of-self : goal.invariant_of-self
 invariant_of-self c =
     let shorts = c.self.inside.events.items in
     let outcomes = c.self.inside.outcomes.items in
-    let list : length (entries_of outcomes shorts) ≡ length c.args.self.now.list = ap (λ (e : Entries). length e.list) c.self.view_is in
-    let room : vec_capacity c.self.inside.events ≡ c.args.self.now.room = ap (λ (e : Entries). e.room) c.self.view_is in
+    let list : length (entries_of outcomes shorts) ≡ length c.args.self.now.list = ap (λ (e : JournalImage). length e.list) c.self.view_is in
+    let room : vec_capacity c.self.inside.events ≡ c.args.self.now.room = ap (λ (e : JournalImage). e.room) c.self.view_is in
     let long = length_entries outcomes shorts in
     let some : length shorts < vec_capacity c.self.inside.events = omega (arith, c.requires) in
     shorts_more shorts _ _ _ outcomes _ _ _ _ _ _ c.self.invariant c.keep_outcome-end.ensures.kept c.push_reserved.ensures.items c.push_reserved.ensures.capacity c.keep_outcome-end.ensures.capacity refl some
@@ -21,7 +21,7 @@ returns-clause-list c =
     let shorts = c.self.inside.events.items in
     let outcomes = c.self.inside.outcomes.items in
     let after = c.keep_outcome-end.new.outcomes.items in
-    let list : entries_of outcomes shorts ≡ c.args.self.now.list = ap (λ (e : Entries). e.list) c.self.view_is in
+    let list : entries_of outcomes shorts ≡ c.args.self.now.list = ap (λ (e : JournalImage). e.list) c.self.view_is in
     ap (λ (ss : List Short). entries_of after ss) c.push_reserved.ensures.items
     ∙ entries_more outcomes after c.args.event _ c.args.actor shorts _ c.keep_outcome-end.ensures.kept c.self.invariant.within refl
     ∙ ap (λ (es : List (ℕ × Event)). es ++ (c.args.actor, c.args.event) ∷ []) list
