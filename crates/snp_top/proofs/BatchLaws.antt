@@ -1,225 +1,230 @@
--- What the program's answers tell, clause by clause.
-use Rattle.std.proofs.Common.{◌≡◌, ℕ, ◌⊎◌, ◌↔◌, true, false, List, [], sym, ◌∙◌, subst, arith, inl, inr, zero, suc, ◌∷◌, take}
+-- What the outcome of a command tells, clause by clause.
+use Rattle.std.proofs.Common.{◌≡◌, ℕ, ◌≤◌, ◌⊎◌, ◌↔◌, ◌≢◌, true, false, zero, suc, List, [], ◌∷◌, take, Option, None, Some, IfSome, Result, Ok, Err, sym, ◌∙◌, subst, arith, inl, inr}
 use Rattle.std.proofs.lemmas.Bool.{false≢true}
-use Rattle.std.specs.Prelude.{slice_get}
-use Rattle.snp_model.specs.Run.{IsDefinedFrom, state_from}
-use Rattle.snp_model.specs.State.{State, IsUnfinished}
-use Rattle.snp_model.specs.Step.{after}
-use Rattle.snp_top.specs.declared.schedule.BadTurn.{BadTurn}
-use Rattle.std.specs.Prelude.{codes, Option, None, Some, IfSome, Result, Ok, Err}
+use Rattle.std.specs.Prelude.{codes, slice_get}
+use Rattle.snp_model.specs.declared.reading.Quantity.{Quantity}
+use Rattle.snp_model.specs.declared.reading.Quantity.TheVariants.{Bytes}
+use Rattle.snp_model.specs.declared.reading.Reason.{Reason}
 use Rattle.snp_model.specs.declared.scenario.Scenario.{Scenario}
 use Rattle.snp_model.specs.CommandLine.{are_words}
 use Rattle.snp_model.specs.Ending.{report_of}
+use Rattle.snp_model.specs.Findings.{says, wrong, too_much}
 use Rattle.snp_model.specs.GuestMemory.{AreLegal}
+use Rattle.snp_model.specs.Limits.{most}
 use Rattle.snp_model.specs.Opening.{opening}
 use Rattle.snp_model.specs.Outside.{Adds, AddsPrefix, Rose}
-use Rattle.snp_model.specs.Reading.{Reads, Valid, order_of}
+use Rattle.snp_model.specs.Reading.{Passes, Reads, Refuses, Valid, order_of}
 use Rattle.snp_model.specs.Report.{report_text}
-use Rattle.snp_model.specs.Run.{IsDefined, IsOrdered}
+use Rattle.snp_model.specs.Run.{IsDefined, IsDefinedFrom, IsOrdered, state_from}
+use Rattle.snp_model.specs.State.{State, IsUnfinished}
+use Rattle.snp_model.specs.Step.{after}
+use Rattle.snp_model.proofs.FindingLaws.{one_finding}
 use Rattle.snp_model.proofs.GuestMemoryLaws.{guests_are_legal}
 use Rattle.snp_model.proofs.OrderedLaws.{run_is_ordered}
 use Rattle.snp_model.proofs.SoundLaws.{valid_is_sound}
-use Rattle.snp_top.specs.declared.batch.Answer.{Answer}
-use Rattle.snp_top.specs.declared.batch.Answer.TheVariants as answers
+use Rattle.snp_top.specs.declared.fault.CommandFault.{CommandFault}
+use Rattle.snp_top.specs.declared.fault.CommandFault.TheVariants as faults
 use Rattle.snp_top.specs.declared.replay.Played.{Played}
-use Rattle.snp_top.specs.declared.replay.ReplayFault.{ReplayFault}
-use Rattle.snp_top.specs.declared.replay.ReplayFault.TheVariants as faults
-use Rattle.snp_model.specs.Findings.{says}
-use Rattle.snp_top.specs.Batch.{Explains, ForScenario, IsStatus, Outside, ReportsTo, SaysBadTurn, SaysCutReport, SaysOne, SaysRun, Wrote, answer_of, line_of, status_of}
-use Rattle.snp_top.specs.Replays.{HasFailed, IsPlayed, IsRead, ReplaysTo, SaysNone}
+use Rattle.snp_top.specs.Batch.{Explains, ForScenario, Outside, ReportsTo, SaysBadTurn, SaysCutReport, SaysLimit, SaysRefusal, SaysRun, Wrote}
+use Rattle.snp_top.specs.Faults.{error_line, exit_status, status_of}
+use Rattle.snp_top.specs.Input.{TakesAtMost}
+use Rattle.snp_top.specs.Replays.{IsPlayed, IsRead, ReadsText, SaysOne}
 use Rattle.snp_top.specs.Schedule.{IsFirstBad}
-use Rattle.snp_model.proofs.FindingLaws.{one_finding}
 
 -- what is written of a replay is the report of its scenario
 played_report : (c : Scenario) (played : Played) → IsPlayed c played → report_text played.version played.journal.list played.guests.items ≡ report_of c (order_of c)
 unfolding report_of
 played_report c played is = λ i. report_text (is.version i) (is.events i) (is.guests i)
 
-pub explains_report : (answer : Answer) (words : List (List ℕ)) (before now : Outside) (played : Played) → are_words words ≡ true → ReplaysTo before.left now.left (let r : Result Played ReplayFault = Ok played in r)
-    → ReportsTo before.written now.written before.write_faults now.write_faults (report_text played.version played.journal.list played.guests.items) answer → Explains answer words before now
-explains_report answers.Done words before now played fits replays reports = (fits, said before.left replays)
-  where
-    said : (left : Option (List ℕ)) → ReplaysTo left now.left (let r : Result Played ReplayFault = Ok played in r) → IfSome left (λ text. (now.left ≡ Some []) × SaysOne text (λ c. IsDefined c (order_of c) × Adds before.written now.written (report_of c (order_of c))))
-    said None replays = tt
-    said (Some text) replays = (replays.0, (replays.1.0, replays.1.1, (replays.1.2.defined, subst (Adds before.written now.written) (played_report replays.1.0 played replays.1.2) reports)))
-explains_report answers.Write words before now played fits replays reports = (fits, reports.1, said before.left replays)
-  where
-    said : (left : Option (List ℕ)) → ReplaysTo left now.left (let r : Result Played ReplayFault = Ok played in r) → IfSome left (λ text. (now.left ≡ Some []) × SaysOne text (λ c. IsDefined c (order_of c) × AddsPrefix before.written now.written (report_of c (order_of c))))
-    said None replays = tt
-    said (Some text) replays = (replays.0, (replays.1.0, replays.1.1, (replays.1.2.defined, subst (AddsPrefix before.written now.written) (played_report replays.1.0 played replays.1.2) reports.0)))
-explains_report answer words before now played fits replays reports = absurd reports
+-- the scenario that was replayed, with what was written of it
+reported : (left now : Option (List ℕ)) (played : Played) (Says : List ℕ → Type 0) → ReadsText left now (SaysOne (λ c. IsPlayed c played)) → Says (report_text played.version played.journal.list played.guests.items)
+    → ReadsText left now (SaysOne (λ c. IsDefined c (order_of c) × Says (report_of c (order_of c))))
+reported None now played Says reads writes = tt
+reported (Some text) now played Says reads writes =
+    let c = reads.1.0 in
+    let is = reads.1.2 in
+    (reads.0, (c, reads.1.1, (is.defined, subst Says (played_report c played is) writes)))
 
-pub explains_fault : (fault : ReplayFault) (words : List (List ℕ)) (before now : Outside) → are_words words ≡ true → ReplaysTo before.left now.left (let r : Result Played ReplayFault = Err fault in r)
-    → HasFailed before.read_faults now.read_faults fault → Wrote before now (line_of fault) → Explains (answer_of fault) words before now
-unfolding line_of
-explains_fault faults.Read words before now fits replays failed wrote = (fits, failed, wrote)
-explains_fault faults.Scenario words before now fits replays failed wrote = (fits, replays, wrote)
-explains_fault faults.Memory words before now fits replays failed wrote = (fits, wrote)
-explains_fault (faults.Schedule turn) words before now fits replays failed wrote = (fits, replays, wrote)
+pub explains_report : (outcome : Result (Unit {0}) CommandFault) (words : List (List ℕ)) (before now : Outside) (played : Played) → are_words words ≡ true → ReadsText before.left now.left (SaysOne (λ c. IsPlayed c played))
+    → ReportsTo before.written now.written before.write_faults now.write_faults (report_text played.version played.journal.list played.guests.items) outcome → Explains outcome words before now
+explains_report (Ok done) words before now played fits reads reports = (fits, reported before.left now.left played (Adds before.written now.written) reads reports)
+explains_report (Err faults.Write) words before now played fits reads reports = (fits, reports.1, reported before.left now.left played (AddsPrefix before.written now.written) reads reports.0)
+explains_report (Err fault) words before now played fits reads reports = absurd reports
 
-pub explains_refusal : (answer : Answer) (fault : ReplayFault) (words : List (List ℕ)) (before now : Outside) → answer ≡ answer_of fault → are_words words ≡ true → ReplaysTo before.left now.left (let r : Result Played ReplayFault = Err fault in r)
-    → HasFailed before.read_faults now.read_faults fault → Wrote before now (line_of fault) → Explains answer words before now
-explains_refusal answer fault words before now same fits replays failed wrote =
-    subst (λ (a : Answer). Explains a words before now) (sym same) (explains_fault fault words before now fits replays failed wrote)
-
--- the statuses
-pub status_is_one : (k : ℕ) (answer : Answer) → k ≡ status_of answer → IsStatus k
-status_is_one k answers.Done is = inl is
-status_is_one k answers.Words is = inr (inl is)
-status_is_one k answers.Scenario is = inr (inr (inl is))
-status_is_one k answers.Read is = inr (inr (inr (inl is)))
-status_is_one k answers.Write is = inr (inr (inr (inr (inl is))))
-status_is_one k answers.Memory is = inr (inr (inr (inr (inr (inl is)))))
-status_is_one k (answers.Schedule turn) is = inr (inr (inr (inr (inr (inr is)))))
-
--- an answer and what it tells
+-- the outcome of a command with its status, and what it tells
 pub record Told (k : ℕ) (words : List (List ℕ)) (before now : Outside) : Type 0 where
-  pub answer : Answer
-  pub status : k ≡ status_of answer
-  pub explains : Explains answer words before now
+  pub outcome : Result (Unit {0}) CommandFault
+  pub status : k ≡ exit_status outcome
+  pub explains : Explains outcome words before now
 
--- an answer with another status isn't meant
-apart : {P : Type 0} (k n m : ℕ) → k ≡ n → k ≡ m → (n ≡ m → ⊥) → P
-apart k n m one other differ = absurd (differ (sym one ∙ other))
+-- statuses are those of the outcomes
+status_between : (fault : CommandFault) → (2 ≤ status_of fault) × (status_of fault ≤ 8)
+status_between faults.Words = (omega arith, omega arith)
+status_between (faults.Scenario line reason) = (omega arith, omega arith)
+status_between (faults.Limit quantity count) = (omega arith, omega arith)
+status_between faults.Read = (omega arith, omega arith)
+status_between faults.Write = (omega arith, omega arith)
+status_between faults.Memory = (omega arith, omega arith)
+status_between (faults.Schedule turn) = (omega arith, omega arith)
+
+exit_between : (outcome : Result (Unit {0}) CommandFault) → (exit_status outcome ≤ 8) × (exit_status outcome ≢ 1)
+exit_between (Ok done) = (omega arith, λ e. absurd (omega (arith, e)))
+exit_between (Err fault) = let between = status_between fault in (between.1, λ e. absurd (omega (arith, between.0, e)))
+
+pub told_status : {k : ℕ} {words : List (List ℕ)} {before now : Outside} → Told k words before now → (k ≤ 8) × (k ≢ 1)
+told_status told = let P : ℕ → Type 0 = λ n. (n ≤ 8) × (n ≢ 1) in subst P (sym told.status) (exit_between told.outcome)
 
 -- what status 0 tells
-done : {P : Type 0} (k : ℕ) (words : List (List ℕ)) (before now : Outside) → Told k words before now → k ≡ 0 → (Explains answers.Done words before now → P) → P
-done {P} k words before now told meant tells = go told.answer told.status told.explains
+done : {k : ℕ} {words : List (List ℕ)} {before now : Outside} → Told k words before now → k ≡ 0
+    → ReadsText before.left now.left (SaysOne (λ c. IsDefined c (order_of c) × Adds before.written now.written (report_of c (order_of c))))
+done {k} {words} {before} {now} told meant = go told.outcome told.status told.explains
   where
-    go : (answer : Answer) → k ≡ status_of answer → Explains answer words before now → P
-    go answers.Done is explains = tells explains
-    go answers.Words is explains = absurd (omega (arith, meant, is))
-    go answers.Scenario is explains = absurd (omega (arith, meant, is))
-    go answers.Read is explains = absurd (omega (arith, meant, is))
-    go answers.Write is explains = absurd (omega (arith, meant, is))
-    go answers.Memory is explains = absurd (omega (arith, meant, is))
-    go (answers.Schedule turn) is explains = absurd (omega (arith, meant, is))
+    go : (outcome : Result (Unit {0}) CommandFault) → k ≡ exit_status outcome → Explains outcome words before now
+        → ReadsText before.left now.left (SaysOne (λ c. IsDefined c (order_of c) × Adds before.written now.written (report_of c (order_of c))))
+    go (Ok done) is explains = explains.1
+    go (Err fault) is explains = let between = status_between fault in absurd (omega (arith, meant, is, between.0))
 
-pub told_read : (k : ℕ) (words : List (List ℕ)) (before now : Outside) → Told k words before now → k ≡ 0 → IsRead before.left now.left
-told_read k words before now told meant = done k words before now told meant (λ explains. go before.left explains.1)
-  where
-    go : (left : Option (List ℕ)) → IfSome left (λ text. (now.left ≡ Some []) × SaysOne text (λ c. IsDefined c (order_of c) × Adds before.written now.written (report_of c (order_of c)))) → IsRead left now.left
-    go None h = tt
-    go (Some text) h = h.0
+text_read : (left now : Option (List ℕ)) (P : List ℕ → Type 0) → ReadsText left now P → IsRead left now
+text_read None now P reads = tt
+text_read (Some text) now P reads = reads.0
 
-pub told_run : (k : ℕ) (words : List (List ℕ)) (before now : Outside) → Told k words before now → k ≡ 0 → SaysRun before.left
-told_run k words before now told meant = done k words before now told meant (λ explains. go before.left explains.1)
-  where
-    go : (left : Option (List ℕ)) → IfSome left (λ text. (now.left ≡ Some []) × SaysOne text (λ c. IsDefined c (order_of c) × Adds before.written now.written (report_of c (order_of c)))) → SaysRun left
-    go None h = tt
-    go (Some text) h = (h.1.0, h.1.1, h.1.2.0)
+pub told_read : {k : ℕ} {words : List (List ℕ)} {before now : Outside} → Told k words before now → k ≡ 0 → IsRead before.left now.left
+told_read {k} {words} {before} {now} told meant = text_read before.left now.left _ (done told meant)
+
+run_said : (left now : Option (List ℕ)) (P : Scenario → Type 0) → ReadsText left now (SaysOne (λ c. IsDefined c (order_of c) × P c)) → SaysRun left
+run_said None now P reads = tt
+run_said (Some text) now P reads = (reads.1.0, reads.1.1, reads.1.2.0)
+
+pub told_run : {k : ℕ} {words : List (List ℕ)} {before now : Outside} → Told k words before now → k ≡ 0 → SaysRun before.left
+told_run {k} {words} {before} {now} told meant = run_said before.left now.left (λ c. Adds before.written now.written (report_of c (order_of c))) (done told meant)
 
 -- a text says one scenario alone
-pub same_scenario : (text : List ℕ) (c d : Scenario) → Reads text c → Reads text d → c ≡ d
+same_scenario : (text : List ℕ) (c d : Scenario) → Reads text c → Reads text d → c ≡ d
 same_scenario text c d one other = let e = one_finding text (says c) (says d) one other in cc
 
--- what is known of the scenario that is said
-pub for_scenario : (left : Option (List ℕ)) (P : Scenario → Type 0) → IfSome left (λ text. SaysOne text P) → ForScenario left P
-for_scenario None P h = tt
-for_scenario (Some text) P h = λ c reads. subst P (same_scenario text h.0 c h.1 reads) h.2
-
 -- what is said is valid
-pub said_valid : (text : List ℕ) (c : Scenario) → Reads text c → Valid c
+said_valid : (text : List ℕ) (c : Scenario) → Reads text c → Valid c
 said_valid text c reads = (reads.lines, reads.makes)
 
-said_report : (before now : Outside) (left : Option (List ℕ)) → IfSome left (λ text. (now.left ≡ Some []) × SaysOne text (λ c. IsDefined c (order_of c) × Adds before.written now.written (report_of c (order_of c)))) → IfSome left (λ text. SaysOne text (λ c. Adds before.written now.written (report_of c (order_of c))))
-said_report before now None h = tt
-said_report before now (Some text) h = (h.1.0, h.1.1, h.1.2.1)
+-- what holds of the scenario that was read holds of every scenario that the text says
+for_scenario : (left now : Option (List ℕ)) (P Q : Scenario → Type 0) → ReadsText left now (SaysOne P) → ((c : Scenario) → Valid c → P c → Q c) → ForScenario left Q
+for_scenario None now P Q reads gives = tt
+for_scenario (Some text) now P Q reads gives =
+    let one = reads.1 in
+    λ c other. subst Q (same_scenario text one.0 c one.1 other) (gives one.0 (said_valid text one.0 one.1) one.2)
 
-pub told_report : (k : ℕ) (words : List (List ℕ)) (before now : Outside) → Told k words before now → k ≡ 0 → ForScenario before.left (λ c. Adds before.written now.written (report_of c (order_of c)))
-told_report k words before now told meant =
-    for_scenario before.left (λ (c : Scenario). Adds before.written now.written (report_of c (order_of c))) (done k words before now told meant (λ explains. said_report before now before.left explains.1))
+pub told_report : {k : ℕ} {words : List (List ℕ)} {before now : Outside} → Told k words before now → k ≡ 0 → ForScenario before.left (λ c. Adds before.written now.written (report_of c (order_of c)))
+told_report {k} {words} {before} {now} told meant =
+    for_scenario before.left now.left (λ c. IsDefined c (order_of c) × Adds before.written now.written (report_of c (order_of c))) (λ c. Adds before.written now.written (report_of c (order_of c))) (done told meant) (λ c valid is. is.1)
 
-said_ordered : (left : Option (List ℕ)) → SaysRun left → IfSome left (λ text. SaysOne text (λ c. IsOrdered c (order_of c)))
-said_ordered None h = tt
-said_ordered (Some text) h = (h.0, h.1, run_is_ordered h.0 (order_of h.0) h.2)
+pub told_ordered : {k : ℕ} {words : List (List ℕ)} {before now : Outside} → Told k words before now → k ≡ 0 → ForScenario before.left (λ c. IsOrdered c (order_of c))
+told_ordered {k} {words} {before} {now} told meant =
+    for_scenario before.left now.left (λ c. IsDefined c (order_of c) × Adds before.written now.written (report_of c (order_of c))) (λ c. IsOrdered c (order_of c)) (done told meant) (λ c valid is. run_is_ordered c (order_of c) is.0)
 
-pub told_ordered : (k : ℕ) (words : List (List ℕ)) (before now : Outside) → Told k words before now → k ≡ 0 → ForScenario before.left (λ c. IsOrdered c (order_of c))
-told_ordered k words before now told meant = for_scenario before.left (λ (c : Scenario). IsOrdered c (order_of c)) (said_ordered before.left (told_run k words before now told meant))
-
-said_legal : (left : Option (List ℕ)) → SaysRun left → IfSome left (λ text. SaysOne text (λ c. AreLegal c (order_of c)))
-said_legal None h = tt
-said_legal (Some text) h = (h.0, h.1, guests_are_legal h.0 (order_of h.0) (valid_is_sound h.0 (said_valid text h.0 h.1)) h.2)
-
-pub told_legal : (k : ℕ) (words : List (List ℕ)) (before now : Outside) → Told k words before now → k ≡ 0 → ForScenario before.left (λ c. AreLegal c (order_of c))
-told_legal k words before now told meant = for_scenario before.left (λ (c : Scenario). AreLegal c (order_of c)) (said_legal before.left (told_run k words before now told meant))
+pub told_legal : {k : ℕ} {words : List (List ℕ)} {before now : Outside} → Told k words before now → k ≡ 0 → ForScenario before.left (λ c. AreLegal c (order_of c))
+told_legal {k} {words} {before} {now} told meant =
+    for_scenario before.left now.left (λ c. IsDefined c (order_of c) × Adds before.written now.written (report_of c (order_of c))) (λ c. AreLegal c (order_of c)) (done told meant) (λ c valid is. guests_are_legal c (order_of c) (valid_is_sound c valid) is.0)
 
 -- what each other status tells
-only_words : (k : ℕ) (words : List (List ℕ)) (before now : Outside) → Told k words before now → k ≡ 2 → Explains answers.Words words before now
-only_words k words before now told meant = go told.answer told.status told.explains
+pub told_words_line : {k : ℕ} {words : List (List ℕ)} {before now : Outside} → Told k words before now → k ≡ 2 → Wrote before now (codes "error words\n")
+unfolding error_line
+told_words_line {k} {words} {before} {now} told meant = go told.outcome told.status told.explains
   where
-    go : (answer : Answer) → k ≡ status_of answer → Explains answer words before now → Explains answers.Words words before now
-    go answers.Done is explains = absurd (omega (arith, meant, is))
-    go answers.Words is explains = explains
-    go answers.Scenario is explains = absurd (omega (arith, meant, is))
-    go answers.Read is explains = absurd (omega (arith, meant, is))
-    go answers.Write is explains = absurd (omega (arith, meant, is))
-    go answers.Memory is explains = absurd (omega (arith, meant, is))
-    go (answers.Schedule turn) is explains = absurd (omega (arith, meant, is))
+    go : (outcome : Result (Unit {0}) CommandFault) → k ≡ exit_status outcome → Explains outcome words before now → Wrote before now (error_line faults.Words)
+    go (Err faults.Words) is explains = explains.1
+    go outcome is explains = absurd (omega (arith, meant, is))
 
-only_scenario : (k : ℕ) (words : List (List ℕ)) (before now : Outside) → Told k words before now → k ≡ 3 → Explains answers.Scenario words before now
-only_scenario k words before now told meant = go told.answer told.status told.explains
+pub told_words : {k : ℕ} {words : List (List ℕ)} {before now : Outside} → Told k words before now → (k ≡ 2) ↔ (are_words words ≡ false)
+told_words {k} {words} {before} {now} told = (λ two. refused two told.outcome told.status told.explains, λ none. needed none told.outcome told.status told.explains)
   where
-    go : (answer : Answer) → k ≡ status_of answer → Explains answer words before now → Explains answers.Scenario words before now
-    go answers.Done is explains = absurd (omega (arith, meant, is))
-    go answers.Words is explains = absurd (omega (arith, meant, is))
-    go answers.Scenario is explains = explains
-    go answers.Read is explains = absurd (omega (arith, meant, is))
-    go answers.Write is explains = absurd (omega (arith, meant, is))
-    go answers.Memory is explains = absurd (omega (arith, meant, is))
-    go (answers.Schedule turn) is explains = absurd (omega (arith, meant, is))
+    refused : k ≡ 2 → (outcome : Result (Unit {0}) CommandFault) → k ≡ exit_status outcome → Explains outcome words before now → are_words words ≡ false
+    refused meant (Err faults.Words) is explains = explains.0
+    refused meant outcome is explains = absurd (omega (arith, meant, is))
 
-only_read : (k : ℕ) (words : List (List ℕ)) (before now : Outside) → Told k words before now → k ≡ 5 → Explains answers.Read words before now
-only_read k words before now told meant = go told.answer told.status told.explains
-  where
-    go : (answer : Answer) → k ≡ status_of answer → Explains answer words before now → Explains answers.Read words before now
-    go answers.Done is explains = absurd (omega (arith, meant, is))
-    go answers.Words is explains = absurd (omega (arith, meant, is))
-    go answers.Scenario is explains = absurd (omega (arith, meant, is))
-    go answers.Read is explains = explains
-    go answers.Write is explains = absurd (omega (arith, meant, is))
-    go answers.Memory is explains = absurd (omega (arith, meant, is))
-    go (answers.Schedule turn) is explains = absurd (omega (arith, meant, is))
+    needed : are_words words ≡ false → (outcome : Result (Unit {0}) CommandFault) → k ≡ exit_status outcome → Explains outcome words before now → k ≡ 2
+    needed none (Err faults.Words) is explains = is
+    needed none outcome is explains = absurd (false≢true (sym none ∙ explains.0))
 
-only_write : (k : ℕ) (words : List (List ℕ)) (before now : Outside) → Told k words before now → k ≡ 6 → Explains answers.Write words before now
-only_write k words before now told meant = go told.answer told.status told.explains
+pub told_refusal : {k : ℕ} {words : List (List ℕ)} {before now : Outside} → Told k words before now → k ≡ 3
+    → SaysRefusal before.left now.left before.written now.written before.write_faults now.write_faults
+unfolding error_line
+told_refusal {k} {words} {before} {now} told meant = go told.outcome told.status told.explains
   where
-    go : (answer : Answer) → k ≡ status_of answer → Explains answer words before now → Explains answers.Write words before now
-    go answers.Done is explains = absurd (omega (arith, meant, is))
-    go answers.Words is explains = absurd (omega (arith, meant, is))
-    go answers.Scenario is explains = absurd (omega (arith, meant, is))
-    go answers.Read is explains = absurd (omega (arith, meant, is))
-    go answers.Write is explains = explains
-    go answers.Memory is explains = absurd (omega (arith, meant, is))
-    go (answers.Schedule turn) is explains = absurd (omega (arith, meant, is))
+    go : (outcome : Result (Unit {0}) CommandFault) → k ≡ exit_status outcome → Explains outcome words before now → SaysRefusal before.left now.left before.written now.written before.write_faults now.write_faults
+    go (Err (faults.Scenario line reason)) is explains = (line, reason, explains.1, explains.2)
+    go outcome is explains = absurd (omega (arith, meant, is))
 
-only_memory : (k : ℕ) (words : List (List ℕ)) (before now : Outside) → Told k words before now → k ≡ 7 → Explains answers.Memory words before now
-only_memory k words before now told meant = go told.answer told.status told.explains
+pub told_limit : {k : ℕ} {words : List (List ℕ)} {before now : Outside} → Told k words before now → k ≡ 4
+    → SaysLimit before.left now.left before.written now.written before.write_faults now.write_faults
+unfolding error_line
+told_limit {k} {words} {before} {now} told meant = go told.outcome told.status told.explains
   where
-    go : (answer : Answer) → k ≡ status_of answer → Explains answer words before now → Explains answers.Memory words before now
-    go answers.Done is explains = absurd (omega (arith, meant, is))
-    go answers.Words is explains = absurd (omega (arith, meant, is))
-    go answers.Scenario is explains = absurd (omega (arith, meant, is))
-    go answers.Read is explains = absurd (omega (arith, meant, is))
-    go answers.Write is explains = absurd (omega (arith, meant, is))
-    go answers.Memory is explains = explains
-    go (answers.Schedule turn) is explains = absurd (omega (arith, meant, is))
+    go : (outcome : Result (Unit {0}) CommandFault) → k ≡ exit_status outcome → Explains outcome words before now → SaysLimit before.left now.left before.written now.written before.write_faults now.write_faults
+    go (Err (faults.Limit quantity count)) is explains = (quantity, count, explains.1, explains.2)
+    go outcome is explains = absurd (omega (arith, meant, is))
 
-only_schedule : (k : ℕ) (words : List (List ℕ)) (before now : Outside) → Told k words before now → k ≡ 8 → (turn : BadTurn) × Explains (answers.Schedule turn) words before now
-only_schedule k words before now told meant = go told.answer told.status told.explains
+only_read : {k : ℕ} {words : List (List ℕ)} {before now : Outside} → Told k words before now → k ≡ 5
+    → TakesAtMost (most Bytes) before.left now.left × Rose before.read_faults now.read_faults × Wrote before now (codes "error read\n")
+unfolding error_line
+only_read {k} {words} {before} {now} told meant = go told.outcome told.status told.explains
   where
-    go : (answer : Answer) → k ≡ status_of answer → Explains answer words before now → (turn : BadTurn) × Explains (answers.Schedule turn) words before now
-    go answers.Done is explains = absurd (omega (arith, meant, is))
-    go answers.Words is explains = absurd (omega (arith, meant, is))
-    go answers.Scenario is explains = absurd (omega (arith, meant, is))
-    go answers.Read is explains = absurd (omega (arith, meant, is))
-    go answers.Write is explains = absurd (omega (arith, meant, is))
-    go answers.Memory is explains = absurd (omega (arith, meant, is))
-    go (answers.Schedule turn) is explains = (turn, explains)
+    go : (outcome : Result (Unit {0}) CommandFault) → k ≡ exit_status outcome → Explains outcome words before now → TakesAtMost (most Bytes) before.left now.left × Rose before.read_faults now.read_faults × Wrote before now (error_line faults.Read)
+    go (Err faults.Read) is explains = (explains.1.0, explains.1.1, explains.2)
+    go outcome is explains = absurd (omega (arith, meant, is))
+
+pub told_read_failed : {k : ℕ} {words : List (List ℕ)} {before now : Outside} → Told k words before now → k ≡ 5 → Rose before.read_faults now.read_faults
+told_read_failed told meant = (only_read told meant).1
+
+pub told_read_stopped : {k : ℕ} {words : List (List ℕ)} {before now : Outside} → Told k words before now → k ≡ 5 → TakesAtMost (most Bytes) before.left now.left
+told_read_stopped told meant = (only_read told meant).0
+
+pub told_read_line : {k : ℕ} {words : List (List ℕ)} {before now : Outside} → Told k words before now → k ≡ 5 → Wrote before now (codes "error read\n")
+told_read_line told meant = (only_read told meant).2
+
+only_write : {k : ℕ} {words : List (List ℕ)} {before now : Outside} → Told k words before now → k ≡ 6
+    → Rose before.write_faults now.write_faults × SaysCutReport before.left now.left before.written now.written
+only_write {k} {words} {before} {now} told meant = go told.outcome told.status told.explains
+  where
+    go : (outcome : Result (Unit {0}) CommandFault) → k ≡ exit_status outcome → Explains outcome words before now → Rose before.write_faults now.write_faults × SaysCutReport before.left now.left before.written now.written
+    go (Err faults.Write) is explains = (explains.1, explains.2)
+    go outcome is explains = absurd (omega (arith, meant, is))
+
+pub told_write_failed : {k : ℕ} {words : List (List ℕ)} {before now : Outside} → Told k words before now → k ≡ 6 → Rose before.write_faults now.write_faults
+told_write_failed told meant = (only_write told meant).0
+
+pub told_cut_report : {k : ℕ} {words : List (List ℕ)} {before now : Outside} → Told k words before now → k ≡ 6 → SaysCutReport before.left now.left before.written now.written
+told_cut_report told meant = (only_write told meant).1
+
+pub told_memory_line : {k : ℕ} {words : List (List ℕ)} {before now : Outside} → Told k words before now → k ≡ 7 → Wrote before now (codes "error memory\n")
+unfolding error_line
+told_memory_line {k} {words} {before} {now} told meant = go told.outcome told.status told.explains
+  where
+    go : (outcome : Result (Unit {0}) CommandFault) → k ≡ exit_status outcome → Explains outcome words before now → Wrote before now (error_line faults.Memory)
+    go (Err faults.Memory) is explains = explains.2
+    go outcome is explains = absurd (omega (arith, meant, is))
+
+pub told_bad_turn : {k : ℕ} {words : List (List ℕ)} {before now : Outside} → Told k words before now → k ≡ 8
+    → SaysBadTurn before.left now.left before.written now.written before.write_faults now.write_faults
+unfolding error_line
+told_bad_turn {k} {words} {before} {now} told meant = go told.outcome told.status told.explains
+  where
+    go : (outcome : Result (Unit {0}) CommandFault) → k ≡ exit_status outcome → Explains outcome words before now → SaysBadTurn before.left now.left before.written now.written before.write_faults now.write_faults
+    go (Err (faults.Schedule turn)) is explains = (turn.entry, turn.actor, explains.1, explains.2)
+    go outcome is explains = absurd (omega (arith, meant, is))
 
 -- what is known where the bytes are told
 if_some : (P : List ℕ → Type 0) (left : Option (List ℕ)) (text : List ℕ) → left ≡ Some text → IfSome left P → P text
 if_some P left text is h = subst (λ (l : Option (List ℕ)). IfSome l P) is h
+
+-- a text that says a scenario is neither refused nor passes a limit
+said_or_wrong : (text : List ℕ) (c : Scenario) (line : ℕ) (reason : Reason) → Reads text c → Refuses text line reason → ⊥
+said_or_wrong text c line reason one other = let e = one_finding text (says c) (wrong line reason) one other in cc
+
+said_or_too_much : (text : List ℕ) (c : Scenario) (quantity : Quantity) (count : ℕ) → Reads text c → Passes text quantity count → ⊥
+said_or_too_much text c quantity count one other = let e = one_finding text (says c) (too_much quantity count) one other in cc
+
+wrong_or_too_much : (text : List ℕ) (line : ℕ) (reason : Reason) (quantity : Quantity) (count : ℕ) → Refuses text line reason → Passes text quantity count → ⊥
+wrong_or_too_much text line reason quantity count one other = let e = one_finding text (wrong line reason) (too_much quantity count) one other in cc
 
 -- a schedule that makes a run has no bad entry
 run_has_none : (m : State) (s : List ℕ) (k actor : ℕ) → slice_get s k ≡ Some actor → (IsUnfinished (state_from m (take k s)) actor → ⊥) → IsDefinedFrom m s → ⊥
@@ -228,86 +233,63 @@ run_has_none m [] k actor named bad defined = absurd (cc)
 run_has_none m (x ∷ s) zero actor named bad defined = let same : x ≡ actor = cc in bad (subst (IsUnfinished m) same defined.0)
 run_has_none m (x ∷ s) (suc k) actor named bad defined = run_has_none (after m x) s k actor named bad defined.1
 
-bad_or_run : (c : Scenario) (entry actor : ℕ) → IsFirstBad (opening c) (order_of c) entry actor → IsDefined c (order_of c) → ⊥
-bad_or_run c entry actor bad defined = run_has_none (opening c) (order_of c) entry actor bad.named bad.bad defined
+bad_or_run : (text : List ℕ) (c d : Scenario) (entry actor : ℕ) → Reads text c → Reads text d → IsFirstBad (opening c) (order_of c) entry actor → IsDefined d (order_of d) → ⊥
+bad_or_run text c d entry actor one other bad defined =
+    run_has_none (opening c) (order_of c) entry actor bad.named bad.bad (subst (λ (e : Scenario). IsDefined e (order_of e)) (same_scenario text d c other one) defined)
 
-pub told_words : (k : ℕ) (words : List (List ℕ)) (before now : Outside) → Told k words before now → (k ≡ 2) ↔ (are_words words ≡ false)
-told_words k words before now told = (λ two. (only_words k words before now told two).0, λ none. go none told.answer told.status told.explains)
+-- where each of them comes
+pub told_refusal_where : {k : ℕ} {words : List (List ℕ)} {before now : Outside} → Told k words before now → (text : List ℕ) (line : ℕ) (reason : Reason) → are_words words ≡ true → before.left ≡ Some text → Refuses text line reason
+    → (k ≡ 3) ⊎ ((k ≡ 5) ⊎ (k ≡ 7))
+told_refusal_where {k} {words} {before} {now} told text line reason fits left refuses = go told.outcome told.status told.explains
   where
-    go : are_words words ≡ false → (answer : Answer) → k ≡ status_of answer → Explains answer words before now → k ≡ 2
-    go none answers.Done is explains = absurd (false≢true (sym none ∙ explains.0))
-    go none answers.Words is explains = is
-    go none answers.Scenario is explains = absurd (false≢true (sym none ∙ explains.0))
-    go none answers.Read is explains = absurd (false≢true (sym none ∙ explains.0))
-    go none answers.Write is explains = absurd (false≢true (sym none ∙ explains.0))
-    go none answers.Memory is explains = absurd (false≢true (sym none ∙ explains.0))
-    go none (answers.Schedule turn) is explains = absurd (false≢true (sym none ∙ explains.0))
+    go : (outcome : Result (Unit {0}) CommandFault) → k ≡ exit_status outcome → Explains outcome words before now → (k ≡ 3) ⊎ ((k ≡ 5) ⊎ (k ≡ 7))
+    go (Ok done) is explains = let said = if_some _ before.left text left explains.1 in absurd (said_or_wrong text said.1.0 line reason said.1.1 refuses)
+    go (Err faults.Words) is explains = absurd (false≢true (sym explains.0 ∙ fits))
+    go (Err (faults.Scenario other why)) is explains = inl is
+    go (Err (faults.Limit quantity count)) is explains = let said = if_some _ before.left text left explains.1 in absurd (wrong_or_too_much text line reason quantity count refuses said.1)
+    go (Err faults.Read) is explains = inr (inl is)
+    go (Err faults.Write) is explains = let said = if_some _ before.left text left explains.2 in absurd (said_or_wrong text said.1.0 line reason said.1.1 refuses)
+    go (Err faults.Memory) is explains = inr (inr is)
+    go (Err (faults.Schedule turn)) is explains = let said = if_some _ before.left text left explains.1 in absurd (said_or_wrong text said.1.0 line reason said.1.1 refuses)
 
-pub told_words_line : (k : ℕ) (words : List (List ℕ)) (before now : Outside) → Told k words before now → k ≡ 2 → Wrote before now (codes "error words\n")
-told_words_line k words before now told meant = (only_words k words before now told meant).1
-
-pub told_none : (k : ℕ) (words : List (List ℕ)) (before now : Outside) → Told k words before now → k ≡ 3 → IfSome before.left SaysNone
-told_none k words before now told meant = (only_scenario k words before now told meant).1
-
-pub told_none_line : (k : ℕ) (words : List (List ℕ)) (before now : Outside) → Told k words before now → k ≡ 3 → Wrote before now (codes "error scenario\n")
-told_none_line k words before now told meant = (only_scenario k words before now told meant).2
-
-pub told_none_where : (k : ℕ) (words : List (List ℕ)) (before now : Outside) → Told k words before now → (text : List ℕ) → are_words words ≡ true → before.left ≡ Some text → SaysNone text → (k ≡ 3) ⊎ ((k ≡ 5) ⊎ (k ≡ 7))
-told_none_where k words before now told text fits left none = go told.answer told.status told.explains
+pub told_limit_where : {k : ℕ} {words : List (List ℕ)} {before now : Outside} → Told k words before now → (text : List ℕ) (quantity : Quantity) (count : ℕ) → are_words words ≡ true → before.left ≡ Some text → Passes text quantity count
+    → (k ≡ 4) ⊎ ((k ≡ 5) ⊎ (k ≡ 7))
+told_limit_where {k} {words} {before} {now} told text quantity count fits left passes = go told.outcome told.status told.explains
   where
-    go : (answer : Answer) → k ≡ status_of answer → Explains answer words before now → (k ≡ 3) ⊎ ((k ≡ 5) ⊎ (k ≡ 7))
-    go answers.Done is explains = let said = if_some _ before.left text left explains.1 in absurd (none said.1.0 said.1.1)
-    go answers.Words is explains = absurd (false≢true (sym explains.0 ∙ fits))
-    go answers.Scenario is explains = inl is
-    go answers.Read is explains = inr (inl is)
-    go answers.Write is explains = let said = if_some _ before.left text left explains.2 in absurd (none said.1.0 said.1.1)
-    go answers.Memory is explains = inr (inr is)
-    go (answers.Schedule turn) is explains = let said = if_some _ before.left text left explains.1 in absurd (none said.1.0 said.1.1)
+    go : (outcome : Result (Unit {0}) CommandFault) → k ≡ exit_status outcome → Explains outcome words before now → (k ≡ 4) ⊎ ((k ≡ 5) ⊎ (k ≡ 7))
+    go (Ok done) is explains = let said = if_some _ before.left text left explains.1 in absurd (said_or_too_much text said.1.0 quantity count said.1.1 passes)
+    go (Err faults.Words) is explains = absurd (false≢true (sym explains.0 ∙ fits))
+    go (Err (faults.Scenario line reason)) is explains = let said = if_some _ before.left text left explains.1 in absurd (wrong_or_too_much text line reason quantity count said.1 passes)
+    go (Err (faults.Limit other many)) is explains = inl is
+    go (Err faults.Read) is explains = inr (inl is)
+    go (Err faults.Write) is explains = let said = if_some _ before.left text left explains.2 in absurd (said_or_too_much text said.1.0 quantity count said.1.1 passes)
+    go (Err faults.Memory) is explains = inr (inr is)
+    go (Err (faults.Schedule turn)) is explains = let said = if_some _ before.left text left explains.1 in absurd (said_or_too_much text said.1.0 quantity count said.1.1 passes)
 
-pub told_failed_read : (k : ℕ) (words : List (List ℕ)) (before now : Outside) → Told k words before now → k ≡ 5 → Rose before.read_faults now.read_faults
-told_failed_read k words before now told meant = (only_read k words before now told meant).1
-
-pub told_failed_read_line : (k : ℕ) (words : List (List ℕ)) (before now : Outside) → Told k words before now → k ≡ 5 → Wrote before now (codes "error read\n")
-told_failed_read_line k words before now told meant = (only_read k words before now told meant).2
-
-pub told_failed_write : (k : ℕ) (words : List (List ℕ)) (before now : Outside) → Told k words before now → k ≡ 6 → Rose before.write_faults now.write_faults
-told_failed_write k words before now told meant = (only_write k words before now told meant).1
-
-pub told_cut_report : (k : ℕ) (words : List (List ℕ)) (before now : Outside) → Told k words before now → k ≡ 6 → SaysCutReport before.left now.left before.written now.written
-told_cut_report k words before now told meant = (only_write k words before now told meant).2
-
-pub told_memory_line : (k : ℕ) (words : List (List ℕ)) (before now : Outside) → Told k words before now → k ≡ 7 → Wrote before now (codes "error memory\n")
-told_memory_line k words before now told meant = (only_memory k words before now told meant).1
-
-pub told_bad_turn : (k : ℕ) (words : List (List ℕ)) (before now : Outside) → Told k words before now → k ≡ 8 → SaysBadTurn before.left now.left before.written now.written before.write_faults now.write_faults
-told_bad_turn k words before now told meant = let one = only_schedule k words before now told meant in (one.0.entry, one.0.actor, one.1.1, one.1.2)
-
-pub told_bad_turn_where : (k : ℕ) (words : List (List ℕ)) (before now : Outside) → Told k words before now → (text : List ℕ) (c : Scenario) (entry actor : ℕ) → are_words words ≡ true → before.left ≡ Some text → Reads text c → IsFirstBad (opening c) (order_of c) entry actor → (k ≡ 8) ⊎ ((k ≡ 5) ⊎ (k ≡ 7))
-told_bad_turn_where k words before now told text c entry actor fits left reads bad = go told.answer told.status told.explains
+pub told_bad_turn_where : {k : ℕ} {words : List (List ℕ)} {before now : Outside} → Told k words before now → (text : List ℕ) (c : Scenario) (entry actor : ℕ) → are_words words ≡ true → before.left ≡ Some text
+    → Reads text c → IsFirstBad (opening c) (order_of c) entry actor → (k ≡ 8) ⊎ ((k ≡ 5) ⊎ (k ≡ 7))
+told_bad_turn_where {k} {words} {before} {now} told text c entry actor fits left reads bad = go told.outcome told.status told.explains
   where
-    no_run : (d : Scenario) → Reads text d → IsDefined d (order_of d) → ⊥
-    no_run d other defined = bad_or_run c entry actor bad (subst (λ (e : Scenario). IsDefined e (order_of e)) (same_scenario text d c other reads) defined)
+    go : (outcome : Result (Unit {0}) CommandFault) → k ≡ exit_status outcome → Explains outcome words before now → (k ≡ 8) ⊎ ((k ≡ 5) ⊎ (k ≡ 7))
+    go (Ok done) is explains = let said = if_some _ before.left text left explains.1 in absurd (bad_or_run text c said.1.0 entry actor reads said.1.1 bad said.1.2.0)
+    go (Err faults.Words) is explains = absurd (false≢true (sym explains.0 ∙ fits))
+    go (Err (faults.Scenario line reason)) is explains = let said = if_some _ before.left text left explains.1 in absurd (said_or_wrong text c line reason reads said.1)
+    go (Err (faults.Limit quantity count)) is explains = let said = if_some _ before.left text left explains.1 in absurd (said_or_too_much text c quantity count reads said.1)
+    go (Err faults.Read) is explains = inr (inl is)
+    go (Err faults.Write) is explains = let said = if_some _ before.left text left explains.2 in absurd (bad_or_run text c said.1.0 entry actor reads said.1.1 bad said.1.2.0)
+    go (Err faults.Memory) is explains = inr (inr is)
+    go (Err (faults.Schedule turn)) is explains = inl is
 
-    go : (answer : Answer) → k ≡ status_of answer → Explains answer words before now → (k ≡ 8) ⊎ ((k ≡ 5) ⊎ (k ≡ 7))
-    go answers.Done is explains = let said = if_some _ before.left text left explains.1 in absurd (no_run said.1.0 said.1.1 said.1.2.0)
-    go answers.Words is explains = absurd (false≢true (sym explains.0 ∙ fits))
-    go answers.Scenario is explains = absurd (if_some _ before.left text left explains.1 c reads)
-    go answers.Read is explains = inr (inl is)
-    go answers.Write is explains = let said = if_some _ before.left text left explains.2 in absurd (no_run said.1.0 said.1.1 said.1.2.0)
-    go answers.Memory is explains = inr (inr is)
-    go (answers.Schedule turn) is explains = inl is
-
-pub told_complete : (k : ℕ) (words : List (List ℕ)) (before now : Outside) → Told k words before now → (text : List ℕ) (c : Scenario) → are_words words ≡ true → before.left ≡ Some text → Reads text c → IsDefined c (order_of c) → (Rose before.read_faults now.read_faults → ⊥) → (Rose before.write_faults now.write_faults → ⊥) → (k ≡ 0) ⊎ (k ≡ 7)
-told_complete k words before now told text c fits left reads defined no_read no_write = go told.answer told.status told.explains
+pub told_complete : {k : ℕ} {words : List (List ℕ)} {before now : Outside} → Told k words before now → (text : List ℕ) (c : Scenario) → are_words words ≡ true → before.left ≡ Some text → Reads text c → IsDefined c (order_of c)
+    → (Rose before.read_faults now.read_faults → ⊥) → (Rose before.write_faults now.write_faults → ⊥) → (k ≡ 0) ⊎ (k ≡ 7)
+told_complete {k} {words} {before} {now} told text c fits left reads defined no_read no_write = go told.outcome told.status told.explains
   where
-    no_bad : (d : Scenario) (entry actor : ℕ) → Reads text d → IsFirstBad (opening d) (order_of d) entry actor → ⊥
-    no_bad d entry actor other bad = bad_or_run d entry actor bad (subst (λ (e : Scenario). IsDefined e (order_of e)) (same_scenario text c d reads other) defined)
-
-    go : (answer : Answer) → k ≡ status_of answer → Explains answer words before now → (k ≡ 0) ⊎ (k ≡ 7)
-    go answers.Done is explains = inl is
-    go answers.Words is explains = absurd (false≢true (sym explains.0 ∙ fits))
-    go answers.Scenario is explains = absurd (if_some _ before.left text left explains.1 c reads)
-    go answers.Read is explains = absurd (no_read explains.1)
-    go answers.Write is explains = absurd (no_write explains.1)
-    go answers.Memory is explains = inr is
-    go (answers.Schedule turn) is explains = let said = if_some _ before.left text left explains.1 in absurd (no_bad said.1.0 turn.entry turn.actor said.1.1 said.1.2)
+    go : (outcome : Result (Unit {0}) CommandFault) → k ≡ exit_status outcome → Explains outcome words before now → (k ≡ 0) ⊎ (k ≡ 7)
+    go (Ok done) is explains = inl is
+    go (Err faults.Words) is explains = absurd (false≢true (sym explains.0 ∙ fits))
+    go (Err (faults.Scenario line reason)) is explains = let said = if_some _ before.left text left explains.1 in absurd (said_or_wrong text c line reason reads said.1)
+    go (Err (faults.Limit quantity count)) is explains = let said = if_some _ before.left text left explains.1 in absurd (said_or_too_much text c quantity count reads said.1)
+    go (Err faults.Read) is explains = absurd (no_read explains.1.1)
+    go (Err faults.Write) is explains = absurd (no_write explains.1)
+    go (Err faults.Memory) is explains = inr is
+    go (Err (faults.Schedule turn)) is explains = let said = if_some _ before.left text left explains.1 in absurd (bad_or_run text said.1.0 c turn.entry turn.actor said.1.1 reads said.1.2 defined)

@@ -1,4 +1,5 @@
 pub mod BatchLaws
+pub mod CauseLaws
 pub mod Pieces
 pub mod ReplayLaws
 pub mod ScheduleLaws

@@ -1,60 +1,28 @@
 //! The program's commands, from its words to its exit status.
-ghost use Rattle.std.specs.Prelude.{◌≡◌, ◌+◌, ◌≤◌, ◌<◌, ◌++◌, ◌⊎◌, ◌↔◌, true, false, ℕ, List, Some, IfSome, length, map, take, codes, decimal, bytes_eq, ◌^◌, string_bytes};
-ghost use Rattle.snp_model.specs.CommandLine.{are_words};
+ghost use Rattle.std.specs.Prelude.{◌≡◌, ℕ, ◌+◌, ◌≤◌, ◌<◌, ◌≢◌, ◌⊎◌, ◌↔◌, ◌^◌, true, false, List, Some, length, map, codes, bytes_eq, string_bytes};
 ghost use Rattle.snp_model.specs.declared.scenario.Scenario.{Scenario};
+ghost use Rattle.snp_model.specs.CommandLine.{are_words};
 ghost use Rattle.snp_model.specs.Ending.{report_of};
-ghost use Rattle.snp_model.specs.Report.{report_text};
 ghost use Rattle.snp_model.specs.GuestMemory.{AreLegal};
+ghost use Rattle.snp_model.specs.Limits.{most};
 ghost use Rattle.snp_model.specs.Opening.{opening};
-ghost use Rattle.snp_model.specs.Outside.{Adds, AddsPrefix, Rose, Writes};
-ghost use Rattle.snp_model.specs.Reading.{Reads, order_of};
+ghost use Rattle.snp_model.specs.Outside.{Adds, Rose};
+ghost use Rattle.snp_model.specs.Reading.{Passes, Reads, Refuses, order_of};
+ghost use Rattle.snp_model.specs.Report.{report_text};
 ghost use Rattle.snp_model.specs.Run.{IsDefined, IsOrdered};
-ghost use Rattle.snp_top.specs.Batch.{Explains, ForScenario, IsStatus, ReportsTo, SaysBadTurn, SaysCutReport, SaysRun, WritesLine, answer_of, line_of, schedule_line, status_of};
-ghost use Rattle.snp_top.specs.Replays.{IsRead, SaysNone};
+ghost use Rattle.snp_top.specs.Batch.{Explains, ForScenario, ReportsTo, SaysBadTurn, SaysCutReport, SaysLimit, SaysRefusal, SaysRun, WritesLine};
+ghost use Rattle.snp_top.specs.Faults.{error_line, exit_status};
+ghost use Rattle.snp_top.specs.Input.{TakesAtMost};
+ghost use Rattle.snp_top.specs.Replays.{IsRead};
 ghost use Rattle.snp_top.specs.Schedule.{IsFirstBad};
 
-use crate::replay::{Played, ReplayFault, replay};
-use crate::schedule::BadTurn;
+use crate::errors::put_error;
+use crate::fault::CommandFault;
+use crate::replay::{Played, replay};
 use outside_port::{Sink, Source, write_all};
 use report_text::write_report;
-use script_text::pen::{put, put_named};
+use snp_model::{Quantity, Reason};
 use std::alloc::Global;
-
-/// What the program answers.
-#[derive(Clone, Copy, Debug, PartialEq, Eq)]
-pub enum Answer {
-    /// The whole report was written.
-    Done,
-    /// The words are no command.
-    Words,
-    /// The text says no scenario.
-    Scenario,
-    /// The source failed.
-    Read,
-    /// The sink failed.
-    Write,
-    /// Want of memory.
-    Memory,
-    /// The schedule names an actor that is missing or finished.
-    Schedule(BadTurn),
-}
-
-impl Answer {
-    /// The exit status.
-    pub fn status(&self) -> u8
-        ensures { result ≡ status_of self.now }
-    {
-        match self {
-            Answer::Done => 0,
-            Answer::Words => 2,
-            Answer::Scenario => 3,
-            Answer::Read => 5,
-            Answer::Write => 6,
-            Answer::Memory => 7,
-            Answer::Schedule(_) => 8,
-        }
-    }
-}
 
 // Whether the words are those of a command.
 fn are_words(words: &Vec<String>) -> bool
@@ -69,12 +37,11 @@ fn is_word(word: &[u8], name: &[u8]) -> bool
     word == name
 }
 
-/// Carries out the command that the words name, reading from the source and writing to the sink, and
-/// gives the exit status: 0 the report was written; 2 the words are no command; 3 the text says no
-/// scenario; 5 the source failed; 6 the sink failed; 7 want of memory, which may come at any growth before
-/// the first byte is written; 8 the schedule names an actor that is missing or finished. With a status but
-/// 0 and 6 one error line is written. Where a source or a sink doesn't tell its bytes, nothing is said of
-/// them.
+/// Carries out the command that the words name, reading from the source and writing to the sink, and gives the exit
+/// status: 0 the report was written; 2 the words are no command; 3 a line of the text is refused; 4 the text passes a
+/// limit; 5 the source failed; 6 the sink failed under the report; 7 want of memory, which may come at any growth before
+/// the first byte is written; 8 the schedule names an actor that is missing or finished. With a status but 0 and 6 one
+/// error line is written. Where a source or a sink doesn't tell its bytes, nothing is said of them.
 pub fn snp_batch<S: Source, K: Sink>(
     alloc: Global,
     words: &Vec<String>,
@@ -94,24 +61,31 @@ pub fn snp_batch<S: Source, K: Sink>(
     ensures items_in_order { result ≡ 0 → ForScenario (S.left source.old) (λ c. IsOrdered c (order_of c)) }
     ensures guest_memory_legal { result ≡ 0 → ForScenario (S.left source.old) (λ c. AreLegal c (order_of c)) }
 
-    // There are no other statuses.
-    ensures statuses { IsStatus result }
+    // There are no other statuses than 0 and 2 to 8.
+    ensures statuses { (result ≤ 8) × (result ≢ 1) }
 
-    // The words are looked at first.
+    // The words are looked at first. Where they are no command, the source isn't touched.
     ensures words_refused { (result ≡ 2) ↔ (are_words (map string_bytes words.now.items) ≡ false) }
     ensures words_line { result ≡ 2 → WritesLine (K.written sink.old) (K.written sink.new) (K.faults sink.old) (K.faults sink.new) (codes "error words\n") }
+    ensures source_untouched { result ≡ 2 → source.new ≡ source.old }
 
-    // Then the text is read, as far as the source gives it.
+    // Then the text is read, at most one byte more of it than a text may have. The source may fail before that.
+    ensures taken { TakesAtMost (most Quantity.Bytes + 1) (S.left source.old) (S.left source.new) }
     ensures read_failed { result ≡ 5 → Rose (S.faults source.old) (S.faults source.new) }
+    ensures read_stopped { result ≡ 5 → TakesAtMost (most Quantity.Bytes) (S.left source.old) (S.left source.new) }
     ensures read_line { result ≡ 5 → WritesLine (K.written sink.old) (K.written sink.new) (K.faults sink.old) (K.faults sink.new) (codes "error read\n") }
 
-    // It may say no scenario.
-    ensures scenario_refused { result ≡ 3 → IfSome (S.left source.old) SaysNone }
-    ensures scenario_refused_where { (text : List ℕ) → are_words (map string_bytes words.now.items) ≡ true → S.left source.old ≡ Some text
-        → SaysNone text → (result ≡ 3) ⊎ ((result ≡ 5) ⊎ (result ≡ 7)) }
-    ensures scenario_line { result ≡ 3 → WritesLine (K.written sink.old) (K.written sink.new) (K.faults sink.old) (K.faults sink.new) (codes "error scenario\n") }
+    // A line of it may be the first thing that is wrong.
+    ensures scenario_refused { result ≡ 3 → SaysRefusal (S.left source.old) (S.left source.new) (K.written sink.old) (K.written sink.new) (K.faults sink.old) (K.faults sink.new) }
+    ensures scenario_refused_where { (text : List ℕ) (line : ℕ) (reason : Reason) → are_words (map string_bytes words.now.items) ≡ true → S.left source.old ≡ Some text
+        → Refuses text line reason → (result ≡ 3) ⊎ ((result ≡ 5) ⊎ (result ≡ 7)) }
 
-    // Its schedule may name an actor that is missing or finished.
+    // Or a limit may be: the text's own length, or a quantity with a line.
+    ensures limit_passed { result ≡ 4 → SaysLimit (S.left source.old) (S.left source.new) (K.written sink.old) (K.written sink.new) (K.faults sink.old) (K.faults sink.new) }
+    ensures limit_passed_where { (text : List ℕ) (quantity : Quantity) (count : ℕ) → are_words (map string_bytes words.now.items) ≡ true → S.left source.old ≡ Some text
+        → Passes text quantity count → (result ≡ 4) ⊎ ((result ≡ 5) ⊎ (result ≡ 7)) }
+
+    // Else the text says a scenario. Its schedule may name an actor that is missing or finished.
     ensures schedule_refused { result ≡ 8 → SaysBadTurn (S.left source.old) (S.left source.new) (K.written sink.old) (K.written sink.new) (K.faults sink.old) (K.faults sink.new) }
     ensures schedule_refused_where { (text : List ℕ) (c : Scenario) (entry actor : ℕ) → are_words (map string_bytes words.now.items) ≡ true → S.left source.old ≡ Some text
         → Reads text c → IsFirstBad (opening c) (order_of c) entry actor → (result ≡ 8) ⊎ ((result ≡ 5) ⊎ (result ≡ 7)) }
@@ -129,7 +103,18 @@ pub fn snp_batch<S: Source, K: Sink>(
         → (Rose (S.faults source.old) (S.faults source.new) → ⊥) → (Rose (K.faults sink.old) (K.faults sink.new) → ⊥)
         → (result ≡ 0) ⊎ (result ≡ 7) }
 {
-    carry_out(alloc, words, source, sink).status()
+    let outcome = carry_out(alloc, words, source, sink);
+    exit_status(outcome)
+}
+
+// The exit status of a command.
+fn exit_status(outcome: Result<(), CommandFault>) -> u8
+    ensures { result ≡ exit_status outcome }
+{
+    match outcome {
+        Ok(()) => 0,
+        Err(fault) => fault.status(),
+    }
 }
 
 // Carries a command out.
@@ -138,75 +123,41 @@ fn carry_out<S: Source, K: Sink>(
     words: &Vec<String>,
     source: &mut S,
     sink: &mut K,
-) -> Answer
-    ensures { Explains result (map string_bytes words.now.items)
+) -> Result<(), CommandFault>
+    ensures explained { Explains result (map string_bytes words.now.items)
         (record { left = S.left source.old; read_faults = S.faults source.old; written = K.written sink.old; write_faults = K.faults sink.old })
         (record { left = S.left source.new; read_faults = S.faults source.new; written = K.written sink.new; write_faults = K.faults sink.new }) }
+    ensures taken { TakesAtMost (most Quantity.Bytes + 1) (S.left source.old) (S.left source.new) }
+    ensures untouched { are_words (map string_bytes words.now.items) ≡ false → source.new ≡ source.old }
 {
     if !are_words(words) {
-        write_line(sink, b"error words\n");
-        return Answer::Words;
+        return Err(refuse(CommandFault::Words, sink));
     }
     match replay(alloc, source) {
         Ok(played) => report(&played, sink),
-        Err(fault) => refuse(fault, sink),
+        Err(fault) => Err(refuse(fault, sink)),
     }
 }
 
-// Writes an error line, or a front of it where the sink fails.
-fn write_line<K: Sink>(sink: &mut K, line: &[u8])
-    ensures { WritesLine (K.written sink.old) (K.written sink.new) (K.faults sink.old) (K.faults sink.new) line.now }
-{
-    let _ = write_all(sink, line);
-}
-
-// The error line of a schedule.
-#[tactic(auto, unfolding(crate::specs::Batch::schedule_line))]
-fn schedule_line(turn: BadTurn, out: &mut [u8; 64]) -> usize
-    ensures end { result ≤ 64 }
-    ensures line { take result out.new ≡ schedule_line turn.entry turn.actor }
-{
-    let at = put_named(out, 0, b"error schedule ", u64::from(turn.entry));
-    let at = put_named(out, at, b" ", u64::from(turn.actor));
-    put(out, at, b"\n")
-}
-
 // Writes the report of a replay.
-fn report<K: Sink>(played: &Played, sink: &mut K) -> Answer
+fn report<K: Sink>(played: &Played, sink: &mut K) -> Result<(), CommandFault>
     requires version { (1 ≤ played.now.version) × (played.now.version ≤ 2) }
     requires short { length played.now.journal.list < 2 ^ 32 }
     ensures { ReportsTo (K.written sink.old) (K.written sink.new) (K.faults sink.old) (K.faults sink.new) (report_text played.now.version played.now.journal.list played.now.guests.items) result }
 {
     match write_report(played.version, &played.journal, &played.guests, sink) {
-        Ok(()) => Answer::Done,
-        Err(_) => Answer::Write,
+        Ok(()) => Ok(()),
+        Err(_) => Err(CommandFault::Write),
     }
 }
 
-// Writes the error line of a replay that came to nothing.
-#[tactic(auto, unfolding(crate::specs::Batch::line_of))]
-fn refuse<K: Sink>(fault: ReplayFault, sink: &mut K) -> Answer
-    ensures answer { result ≡ answer_of fault }
-    ensures line { WritesLine (K.written sink.old) (K.written sink.new) (K.faults sink.old) (K.faults sink.new) (line_of fault) }
+// Writes the error line of a fault, or a front of it where the sink fails, and gives the fault back.
+fn refuse<K: Sink>(fault: CommandFault, sink: &mut K) -> CommandFault
+    ensures same { result ≡ fault }
+    ensures line { WritesLine (K.written sink.old) (K.written sink.new) (K.faults sink.old) (K.faults sink.new) (error_line fault) }
 {
-    match fault {
-        ReplayFault::Read => {
-            write_line(sink, b"error read\n");
-            Answer::Read
-        }
-        ReplayFault::Scenario => {
-            write_line(sink, b"error scenario\n");
-            Answer::Scenario
-        }
-        ReplayFault::Memory => {
-            write_line(sink, b"error memory\n");
-            Answer::Memory
-        }
-        ReplayFault::Schedule(turn) => {
-            let mut line = [0; 64];
-            let end = schedule_line(turn, &mut line);
-            write_line(sink, &line[..end]);
-            Answer::Schedule(turn)
-        }
-    }
+    let mut line = [0; 64];
+    let end = put_error(&mut line, fault);
+    let _ = write_all(sink, &line[..end]);
+    fault
 }

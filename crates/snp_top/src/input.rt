@@ -1,55 +1,40 @@
-ghost use Rattle.std.specs.Prelude.{◌≡◌, ◌<◌, ◌≤◌, [], length, IfOk, IfErr, IfSome, OnErr};
+//! The text that a command reads.
+ghost use Rattle.std.specs.Prelude.{◌≡◌, ◌+◌, ◌<◌, ◌≤◌, [], length, IfOk, IfErr, IfSome, OnErr};
+ghost use Rattle.snp_model.specs.Limits.{most};
 ghost use Rattle.snp_model.specs.Outside.{ReadTakes, Rose, TakesAll};
-ghost use Rattle.snp_top.specs.Input.{HasInputCause};
+ghost use Rattle.snp_top.specs.Input.{HasInputCause, TakesAtMost};
 
+use crate::fault::CommandFault;
 use outside_port::{Failed, Source};
-use std::alloc::{AllocError, Global};
-
-/// The most bytes that a text may have.
-pub const MOST_BYTES: usize = 4_194_304;
+use snp_model::Quantity;
+use std::alloc::Global;
 
 // How many bytes are asked of a source at a time.
 const PIECE: usize = 65_536;
 
-/// Why a text couldn't be read.
-#[derive(Clone, Copy, Debug, PartialEq, Eq)]
-pub enum InputFault {
-    /// The source failed.
-    Failed,
-    /// It has more than `MOST_BYTES` bytes.
-    TooLong,
-    /// Want of memory.
-    Memory,
-}
-
-impl From<AllocError> for InputFault {
-    ghost use Rattle.snp_top.specs.declared.input.InputFault.TheVariants.{Memory};
-
-    ghost from_gives = { λ _ fault. fault ≡ Memory };
-
-    fn from(_error: AllocError) -> InputFault {
-        InputFault::Memory
-    }
-}
-
-/// Reads a source to its end. Of a text that is too long, `MOST_BYTES` and one byte are taken.
-pub fn read_text<S: Source>(alloc: Global, source: &mut S) -> Result<Vec<u8>, InputFault>
+/// Reads a source to its end. Of a text that is too long, the most that a text may have and one byte are taken.
+pub fn read_text<S: Source>(alloc: Global, source: &mut S) -> Result<Vec<u8>, CommandFault>
     ensures all { IfOk result (λ text. TakesAll (S.left source.old) (S.left source.new) text.items) }
-    ensures length { IfOk result (λ text. length text.items ≤ 4_194_304) }
-    ensures cause { IfErr result (HasInputCause (S.left source.old) (S.faults source.old) (S.faults source.new)) }
+    ensures short { IfOk result (λ text. length text.items ≤ most Quantity.Bytes) }
+    ensures cause { IfErr result (HasInputCause (S.left source.old) (S.left source.new) (S.faults source.old) (S.faults source.new)) }
+    ensures taken { TakesAtMost (most Quantity.Bytes + 1) (S.left source.old) (S.left source.new) }
     ensures later { S.faults source.old ≤ S.faults source.new }
 {
+    let most = Quantity::Bytes.most() as usize;
     let mut text = Vec::new(alloc);
     let mut buffer = piece_buffer();
-    'pieces: while text.len() <= MOST_BYTES {
-        let most = MOST_BYTES + 1 - text.len();
-        match read_piece(source, &mut buffer, most) {
+    'pieces: while text.len() <= most {
+        let room = most + 1 - text.len();
+        match read_piece(source, &mut buffer, room) {
             Ok(0) => return Ok(text),
             Ok(count) => text.extend_from_slice(&buffer[..count])?,
-            Err(Failed) => return Err(InputFault::Failed),
+            Err(Failed) => return Err(CommandFault::Read),
         }
     }
-    Err(InputFault::TooLong)
+    Err(CommandFault::Limit {
+        quantity: Quantity::Bytes,
+        count: text.len() as u64,
+    })
 }
 
 // A buffer for a piece.

@@ -2,6 +2,8 @@
 #![tactic(auto)]
 
 pub mod batch;
+mod errors;
+pub mod fault;
 pub mod input;
 pub mod replay;
 pub mod schedule;

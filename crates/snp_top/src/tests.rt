@@ -1,12 +1,19 @@
 //! Texts that no clause spells out, and failures outside in mid-stream.
+ghost use Rattle.std.specs.Prelude.{◌<◌, Some};
+
 use crate::batch::snp_batch;
-use crate::input::{InputFault, MOST_BYTES, read_text};
+use crate::fault::CommandFault;
+use crate::input::read_text;
+use crate::schedule::{BadTurn, empty_journal, play};
+use machine_core::Machine;
 use outside_port::{
     Failed, MemorySink, MemorySource, ReaderSource, Sink, SinkFault, Source, WriterSink, write_all,
 };
 use report_text::{write_line, write_report};
 use run_journal::Journal;
-use snp_model::{Deed, Event, GuestLine, GuestState, Outcome, PageSize};
+use scenario_text::read_scenario;
+use snp_model::{Deed, Event, GuestLine, GuestState, Outcome, PageSize, Quantity, Turn};
+use std::alloc::{AllocError, Global};
 use std::process::Abort;
 use std::test::Fail;
 
@@ -260,25 +267,74 @@ fn reports(rt: HostRuntime) -> Result<(), Fail> {
     Ok(())
 }
 
+// A source that counts its reads.
+#[derive(Drop)]
+struct Counted {
+    source: MemorySource,
+    reads: u64,
+}
+
+impl Source for Counted {
+    ghost left = { λ s. Some s.source.left };
+
+    ghost faults = { λ s. s.source.faults };
+
+    fn read(&mut self, buf: &mut [u8]) -> Result<usize, Failed> {
+        self.reads = self.reads.saturating_add(1);
+        self.source.read(buf)
+    }
+}
+
+// A source in memory, without reads so far, of which one fails.
+fn make_counted(text: Vec<u8>, piece: usize, failing: Vec<u32>) -> Counted
+    requires { 0 < piece }
+{
+    Counted {
+        source: MemorySource::over(text, piece, failing),
+        reads: 0,
+    }
+}
+
 // A text of 20 bytes in pieces of 7 is read in three reads and a fourth that gives none; each of
-// them fails in turn.
+// them fails in turn. There is no read behind the end or behind a failure.
 #[test]
 fn pieces(rt: HostRuntime) -> Result<(), Fail> {
     let alloc = rt.alloc();
     for k in 0..5 {
         let text = Vec::from_slice(alloc, b"twenty bytes of text")?;
-        let mut source = MemorySource::over(text, 7, vec![in alloc; k]?);
+        let mut source = make_counted(text, 7, vec![in alloc; k]?);
         match read_text(alloc, &mut source) {
             Ok(read) => {
                 assert!(rt; k == 4);
                 assert!(rt; read.as_slice() == b"twenty bytes of text".as_slice());
             }
-            Err(fault) => assert!(rt; k < 4 && fault == InputFault::Failed),
+            Err(fault) => assert!(rt; k < 4 && fault == CommandFault::Read),
         }
+        assert_eq!(rt; source.reads, u64::from(k.min(3)) + 1);
     }
-    let long = vec![in alloc; b'a'; MOST_BYTES + 1]?;
-    let mut source = MemorySource::over(long, MOST_BYTES, Vec::new(alloc));
-    assert!(rt; read_text(alloc, &mut source).err() == Some(InputFault::TooLong));
+    Ok(())
+}
+
+// Texts of the most bytes and of one more, in pieces of 65,536 bytes. The most are read in 64 reads. The next one gives
+// none, or the byte too many, and is the last one. What comes first, a failure or that byte, is the answer.
+#[test]
+fn long_texts(rt: HostRuntime) -> Result<(), Fail> {
+    let alloc = rt.alloc();
+    let passed = CommandFault::Limit {
+        quantity: Quantity::Bytes,
+        count: 4_194_305,
+    };
+    for (length, failing, fault, reads) in [
+        (4_194_304, 65, None, 65),
+        (4_194_305, 65, Some(passed), 65),
+        (4_194_305, 64, Some(CommandFault::Read), 65),
+        (4_194_305, 63, Some(CommandFault::Read), 64),
+    ] {
+        let text = vec![in alloc; b'#'; length]?;
+        let mut source = make_counted(text, 65_536, vec![in alloc; failing]?);
+        assert!(rt; read_text(alloc, &mut source).err() == fault);
+        assert_eq!(rt; source.reads, reads);
+    }
     Ok(())
 }
 
@@ -348,6 +404,193 @@ fn a_replay_and_its_failures(rt: HostRuntime) -> Result<(), Fail> {
         let mut sink = MemorySink::with_room(alloc, room, vec![in alloc; write]?)?;
         assert_eq!(rt; snp_batch(alloc, &words, &mut source, &mut sink), status);
         assert!(rt; sink.bytes() == written);
+    }
+    Ok(())
+}
+
+// Words that are no command make no read.
+#[test]
+fn words_without_a_command(rt: HostRuntime) -> Result<(), Fail> {
+    let alloc = rt.alloc();
+    let words = vec![in alloc;
+        String::from_str(alloc, "replay")?,
+        String::from_str(alloc, "x")?,
+    ]?;
+    let mut source = make_counted(Vec::from_slice(alloc, SMALLEST)?, 7, Vec::new(alloc));
+    let mut sink = MemorySink::with_room(alloc, 100, Vec::new(alloc))?;
+    assert_eq!(rt; snp_batch(alloc, &words, &mut source, &mut sink), 2);
+    assert!(rt; sink.bytes() == b"error words\n".as_slice());
+    assert_eq!(rt; source.reads, 0);
+    Ok(())
+}
+
+// A text with a line in its middle that stands there many times.
+fn with_lines(
+    alloc: Global,
+    front: &[u8],
+    line: &[u8],
+    times: u32,
+    back: &[u8],
+) -> Result<Vec<u8>, AllocError> {
+    let mut text = Vec::from_slice(alloc, front)?;
+    for _ in 0..times {
+        text.extend_from_slice(line)?;
+    }
+    text.extend_from_slice(back)?;
+    Ok(text)
+}
+
+const HEAD: &[u8] = b"snp 1\nregions 1\n";
+
+const OPENED: &[u8] = b"snp 1
+regions 1
+guest 1 opened asid 1 iv 0 key 0000000000000000000000000000000000000000000000000000000000000000
+";
+
+// The smallest scenario with its load alone, up to its schedule.
+const LOAD: &[u8] = b"snp 1
+regions 1
+guest 1 opened asid 1 iv 0 key 0000000000000000000000000000000000000000000000000000000000000000
+page 8 of 1 at 0 4k valid 0 0 0
+word 1 0 0x2007
+word 2 0 0x3007
+word 3 0 0x4007
+word 4 0 0x8007
+actor 1 cpu 1 vmpl 0 npt 1 flat
+load 0x10
+";
+
+// Texts as a front and what follows it, many times: the status, and the error line. The third is the smallest scenario,
+// cut behind `load 0x`.
+#[test]
+fn refusals(rt: HostRuntime) -> Result<(), Fail> {
+    for (front, line, times, status, error) in [
+        (
+            LOAD,
+            b"order 1*7\nend\n".as_slice(),
+            1,
+            8,
+            "error schedule 6 1\n",
+        ),
+        (
+            LOAD,
+            b"order 9\nend\n".as_slice(),
+            1,
+            8,
+            "error schedule 0 9\n",
+        ),
+        (
+            &SMALLEST[..SMALLEST.len() - 18],
+            b"".as_slice(),
+            0,
+            3,
+            "error scenario 11 cut\n",
+        ),
+        (HEAD, b"end\n".as_slice(), 2, 3, "error scenario 4 after\n"),
+        (HEAD, b"\n".as_slice(), 2, 3, "error scenario 5 end\n"),
+        (HEAD, b"page\n".as_slice(), 1, 3, "error scenario 3 form\n"),
+        (
+            HEAD,
+            b"word x 0 0\n".as_slice(),
+            1,
+            3,
+            "error scenario 3 number\n",
+        ),
+        (
+            HEAD,
+            b"word 0 512 0\n".as_slice(),
+            1,
+            3,
+            "error scenario 3 range\n",
+        ),
+        (
+            HEAD,
+            b"actor 1 host\nload 4\n".as_slice(),
+            1,
+            3,
+            "error scenario 4 align\n",
+        ),
+        (
+            HEAD,
+            b"actor 1 cpu 1 vmpl 0 npt 0 flat\n".as_slice(),
+            1,
+            3,
+            "error scenario 3 guest\n",
+        ),
+        (
+            OPENED,
+            b"page 8 of 1 at 0 4k valid 0 0 0\n".as_slice(),
+            2,
+            3,
+            "error scenario 5 repeat\n",
+        ),
+        (
+            b"snp 1\n".as_slice(),
+            b"regions 17\n".as_slice(),
+            1,
+            4,
+            "error limit regions 17 16\n",
+        ),
+        (
+            HEAD,
+            b"order 1*262144\n".as_slice(),
+            2,
+            4,
+            "error limit order 524288 262144\n",
+        ),
+        (
+            LOAD,
+            b"load 0\n".as_slice(),
+            8192,
+            4,
+            "error limit attempts 8193 8192\n",
+        ),
+        (
+            b"".as_slice(),
+            b"#\n".as_slice(),
+            2_097_153,
+            4,
+            "error limit bytes 4194305 4194304\n",
+        ),
+    ] {
+        let alloc = rt.alloc();
+        let words = vec![in alloc; String::from_str(alloc, "replay")?]?;
+        let text = with_lines(alloc, front, line, times, b"")?;
+        let mut source = MemorySource::over(text, 65_536, Vec::new(alloc));
+        let mut sink = MemorySink::with_room(alloc, 100, Vec::new(alloc))?;
+        let answered = snp_batch(alloc, &words, &mut source, &mut sink);
+        assert!(rt; sink.bytes() == error.as_bytes(), "{error}");
+        assert_eq!(rt; answered, status, "{error}");
+    }
+    Ok(())
+}
+
+// More `word` lines than there are frames, attempts or actors of any number.
+#[test]
+fn many_words(rt: HostRuntime) -> Result<(), Fail> {
+    let alloc = rt.alloc();
+    let words = vec![in alloc; String::from_str(alloc, "replay")?]?;
+    let text = with_lines(alloc, HEAD, b"word 9 1 2\n", 20_000, b"end\n")?;
+    let mut source = MemorySource::over(text, 65_536, Vec::new(alloc));
+    let mut sink = MemorySink::with_room(alloc, 100, Vec::new(alloc))?;
+    assert_eq!(rt; snp_batch(alloc, &words, &mut source, &mut sink), 0);
+    assert!(rt; sink.bytes() == b"snp-report 1\nend 0\n".as_slice());
+    Ok(())
+}
+
+// Schedules that name an actor once too often, and actors that aren't there.
+#[test]
+fn bad_turns(rt: HostRuntime) -> Result<(), Fail> {
+    let alloc = rt.alloc();
+    let scenario = read_scenario(alloc, SMALLEST)?;
+    for (actor, count, entry) in [(1, 13, 12), (9, 1, 0), (0, 1, 0)] {
+        let mut machine = Machine::build(alloc, &scenario)?;
+        let mut journal = empty_journal(alloc, &scenario)?;
+        let order = [Turn { actor, count }];
+        let played = play(&mut machine, &mut journal, &order);
+        assert_eq!(rt; played, Err(BadTurn { entry, actor }));
+        assert!(rt; journal.len() == entry as usize);
+        assert!(rt; machine.finished(1) == (entry == 12));
     }
     Ok(())
 }
