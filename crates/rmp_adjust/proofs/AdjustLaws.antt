@@ -1,7 +1,6 @@
 -- What the commit of RMPADJUST leaves of a page.
-use Rattle.std.proofs.Common.{◌≡◌, ℕ, ◌<◌, Bool, None, refl, ap, ◌∙◌, arith}
+use Rattle.std.proofs.Common.{◌≡◌, ℕ, ◌<◌, Bool, None, refl, arith}
 use Rattle.std.proofs.lemmas.Bool.Decides.{nat_tests}
-use Rattle.snp_model.specs.declared.entry.RmpEntry.{RmpEntry}
 use Rattle.snp_model.specs.Validation.{adjust_input, adjusted_facts}
 use Rattle.snp_model.proofs.EntriesLaws.{IsOfPage}
 

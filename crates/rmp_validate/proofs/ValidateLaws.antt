@@ -6,7 +6,6 @@ use Rattle.snp_model.specs.declared.entry.RmpEntry.{RmpEntry}
 use Rattle.snp_model.specs.Entries.{Entries, IsTable, facts_at, with_entry}
 use Rattle.snp_model.specs.Facts.{page_base}
 use Rattle.snp_model.specs.Locks.{over_lock, page_lock}
-use Rattle.snp_model.specs.State.{PageLock}
 use Rattle.snp_model.specs.Validation.{carry, validated_facts}
 use Rattle.snp_model.proofs.EntriesLaws.{IsOfPage, over_alike, over_is, page_changed}
 

@@ -1,6 +1,4 @@
 use Rattle.std.proofs.Common.{true, false, ap, ◌∙◌}
-use Rattle.std.proofs.lemmas.Bool.{false_from_ne_true}
-use Rattle.snp_model.specs.declared.entry.RmpEntry.{RmpEntry}
 use Rattle.rmp_validate.proofs.ValidateLaws.{as_asked, carried, page_set, with_validated}
 use Rattle.rmp_validate.proofs.validate.set_validated.Goals as goal
 
