@@ -1,15 +1,15 @@
 -- The rows of RMPUPDATE that look at a region, by the size of the range, and what the tests tell.
-use Rattle.std.proofs.Common.{◌≡◌, ◌≢◌, ℕ, zero, suc, ◌+◌, ◌%◌, ◌<◌, ◌≤◌, Bool, true, false, not, cond, if◌then◌else◌, ◌&&◌, ◌||◌, List, ◌∷◌, Option, Some, None, Result, Err, eqb, refl, sym, ap, ◌∙◌, inl, inr, arith}
+use Rattle.std.proofs.Common.{◌≡◌, ℕ, zero, suc, ◌+◌, ◌%◌, ◌<◌, ◌≤◌, Bool, true, false, not, cond, if◌then◌else◌, ◌&&◌, ◌||◌, Option, Some, None, Result, Err, eqb, refl, sym, ap, ◌∙◌, inl, inr, arith}
 use Rattle.std.specs.List.{list_any, range_with_len}
 use Rattle.std.specs.Option.{option_or}
-use Rattle.std.proofs.lemmas.Bool.{cases_eq, cond-true, cond-false, eqb-true, false≢true, not-false, or_parts, or_right}
+use Rattle.std.proofs.lemmas.Bool.{cases_eq, eqb-true, false≢true, not-false, or_parts, or_right}
 use Rattle.snp_model.specs.declared.entry.RmpEntry.{RmpEntry}
 use Rattle.snp_model.specs.declared.entry.PageSize.{PageSize}
 use Rattle.snp_model.specs.declared.entry.PageSize.TheVariants.{Small, Large}
 use Rattle.snp_model.specs.declared.event.Refusal.{Refusal}
 use Rattle.snp_model.specs.declared.event.Refusal.TheVariants.{Status, InUse}
 use Rattle.snp_model.specs.declared.item.Update.{Update}
-use Rattle.snp_model.specs.Entries.{Entries, HasOneHolder, facts_at, holder_at}
+use Rattle.snp_model.specs.Entries.{Entries, facts_at, holder_at}
 use Rattle.snp_model.specs.Facts.{frames_in, some_frame}
 use Rattle.snp_model.specs.Locks.{range_holder}
 use Rattle.snp_model.specs.RmpUpdate.{in_use_or, is_bad_update, overlaps, smash_page_refusal, update_range_refusal}

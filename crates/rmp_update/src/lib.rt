@@ -3,8 +3,6 @@
 
 mod commit;
 mod smash;
-#[cfg(test)]
-mod tests;
 mod update;
 
 pub use commit::update_commit;

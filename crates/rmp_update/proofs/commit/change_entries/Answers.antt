@@ -1,4 +1,4 @@
-use Rattle.std.proofs.Common.{true, false, sym, ap, ◌∙◌}
+use Rattle.std.proofs.Common.{sym, ap, ◌∙◌}
 use Rattle.snp_model.specs.RmpUpdate.{makes_immutable}
 use Rattle.rmp_update.proofs.CommitLaws.{assigned_range, free_facts, immutable_facts}
 use Rattle.rmp_update.proofs.commit.change_entries.Goals as goal

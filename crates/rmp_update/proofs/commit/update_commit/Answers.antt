@@ -1,4 +1,4 @@
-use Rattle.std.proofs.Common.{◌≡◌, ap, ◌∙◌}
+use Rattle.std.proofs.Common.{ap, ◌∙◌}
 use Rattle.snp_model.specs.Entries.{without_locks}
 use Rattle.snp_model.proofs.EntriesLaws.{same_facts, same_holders}
 use Rattle.rmp_update.proofs.CommitLaws.{pages_are}
