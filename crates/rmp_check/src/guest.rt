@@ -77,7 +77,7 @@ fn private_refusal(at: &Place, op: &Op, by_permissions: bool) -> Verdict
 }
 
 // Whether a page is of 2 MB.
-fn is_large(size: PageSize) -> bool
+pub(crate) fn is_large(size: PageSize) -> bool
     ensures { result ≡ is_large size }
 {
     match size {

@@ -10,10 +10,11 @@ use Rattle.snp_model.specs.declared.entry.RmpEntry.{RmpEntry}
 use Rattle.snp_model.specs.declared.entry.PageSize.{PageSize}
 use Rattle.snp_model.specs.declared.entry.PageSize.TheVariants.{Small, Large}
 use Rattle.snp_model.specs.declared.event.InUse.{InUse}
-use Rattle.snp_model.specs.Facts.{free_entry, frames_in}
-use Rattle.snp_model.specs.Entries.{Entries, IsRegionEntry, IsTable, facts_at, facts_within, holder_at, released, with_entry, with_lock, without_locks}
+use Rattle.snp_model.specs.Facts.{free_entry, frames_in, page_base}
+use Rattle.snp_model.specs.Entries.{Entries, IsOnePage, IsRegionEntry, IsTable, facts_at, facts_within, holder_at, released, with_entry, with_lock, without_locks}
 use Rattle.snp_model.specs.Locks.{in_range, over, page_lock, range_holder, range_lock}
 use Rattle.snp_model.specs.RmpUpdate.{smashed_facts}
+use Rattle.snp_model.proofs.EntriesLaws.{over_is, within_first}
 use Rattle.rmp_table.specs.Stored.{AreStored, FitSize, IsHead, facts_by, head_of}
 
 -- ---- the facts of each frame
@@ -25,9 +26,6 @@ small_at entries slot = refl
 pub large_at : (entries : List RmpEntry) (slot : ℕ) → slot < 512 → get_or (facts_by Large entries) slot free_entry ≡ facts_within (head_of entries) slot
 unfolding facts_by
 large_at entries slot low = get_or-map-range_with_len (facts_within (head_of entries)) 0 512 slot slot free_entry low (omega arith)
-
-within_first : (head : RmpEntry) → facts_within head 0 ≡ head
-within_first head = let e : head.gpn + 0 ≡ head.gpn = omega arith in λ i. record head { gpn = e i }
 
 pub large_head : (entries : List RmpEntry) → get_or (facts_by Large entries) 0 free_entry ≡ head_of entries
 large_head entries = large_at entries 0 (omega arith) ∙ within_first (head_of entries)
@@ -162,22 +160,6 @@ unlocked size entries holders new actor are is =
     subst (λ (hs : List (Option ℕ)). AreStored size entries hs) (sym is) (unlocked_map size entries holders actor are)
 
 -- ---- what is kept by frame
-
-inside : (base count k : ℕ) → in_range base count k ≡ true → (base ≤ k) × (k < base + count)
-inside base count k is = (grind (arith, nat_tests), grind (arith, nat_tests))
-
-outside : (base count k : ℕ) → in_range base count k ≡ false → base ≤ k → k < base + count → ⊥
-outside base count k is low high = grind (arith, nat_tests)
-
-over_at : {X : Type 0} (new kept : ℕ → X) (base count : ℕ) (change : ℕ → X → X) → ((k : ℕ) → base ≤ k → k < base + count → new k ≡ change (k - base) (kept k)) → ((k : ℕ) → (base ≤ k → k < base + count → ⊥) → new k ≡ kept k) → (k : ℕ) → new k ≡ over base count change kept k
-over_at new kept base count change here there k = elim (cases_Bool (in_range base count k)) [
-  | inl is ↦ let at = inside base count k is in here k at.0 at.1 ∙ sym (cond-true _ _ _ is)
-  | inr is ↦ there k (outside base count k is) ∙ sym (cond-false _ _ _ is)
-]
-
--- a range is changed, where each frame in it is and each other stays
-pub over_is : {X : Type 0} (new kept : ℕ → X) (base count : ℕ) (change : ℕ → X → X) → ((k : ℕ) → base ≤ k → k < base + count → new k ≡ change (k - base) (kept k)) → ((k : ℕ) → (base ≤ k → k < base + count → ⊥) → new k ≡ kept k) → new ≡ over base count change kept
-over_is new kept base count change here there = λ i k. over_at new kept base count change here there k i
 
 -- one frame of a list is set
 set_is : {X : Type 0} (xs new : List X) (slot : ℕ) (x d : X) → slot < length xs → new ≡ set xs slot x → (λ (k : ℕ). get_or new k d) ≡ over slot 1 (λ _ _. x) (λ (k : ℕ). get_or xs k d)
@@ -446,3 +428,45 @@ not_own holders holder actor is none own =
 
 pub freed : (new : List RmpEntry) (count : ℕ) (value : RmpEntry) → new ≡ replicate count value → value ≡ free_entry → count ≡ 512 → new ≡ replicate 512 free_entry
 freed new count value is free all = is ∙ ap (λ (n : ℕ). replicate n value) all ∙ ap (replicate 512) free
+
+-- ---- the entry of a frame's page
+
+pub record IsPageEntry (value : Entries) (slot : ℕ) (entry : RmpEntry) : Type 0 where
+  pub entry_is : entry ≡ facts_at value (page_base (facts_at value slot).size slot)
+  pub size_is : entry.size ≡ (facts_at value slot).size
+  pub large : entry.size ≡ Large → IsOnePage value × (entry ≡ facts_at value 0)
+
+pub page_small : (size : PageSize) (entries : List RmpEntry) (holders : List (Option ℕ)) (value : Entries) (slot : ℕ) (entry : RmpEntry) → size ≡ Small → AreStored size entries holders → kept size entries holders ≡ value → slot < 512 → entry ≡ facts_at value slot
+    → IsPageEntry value slot entry
+page_small size entries holders value slot entry small are is low same =
+    let at : (facts_at value slot).size ≡ Small = ap (λ (e : RmpEntry). e.size) (sym (facts_small size entries holders value slot small is)) ∙ are_small size entries holders small are slot low in
+    record {
+      entry_is = same ∙ ap (λ (s : PageSize). facts_at value (page_base s slot)) (sym at);
+      size_is = ap (λ (e : RmpEntry). e.size) same;
+      large = λ large. absurd (small≢large (sym (ap (λ (e : RmpEntry). e.size) same ∙ at) ∙ large));
+    }
+
+pub page_large : (size : PageSize) (entries : List RmpEntry) (holders : List (Option ℕ)) (value : Entries) (slot : ℕ) (entry : RmpEntry) → size ≡ Large → AreStored size entries holders → kept size entries holders ≡ value → slot < 512 → entry ≡ facts_at value 0
+    → IsPageEntry value slot entry
+page_large size entries holders value slot entry large are is low same =
+    let at : (facts_at value slot).size ≡ Large = ap (λ (e : RmpEntry). e.size) (sym (facts_large size entries holders value slot large low is)) ∙ (is_head size entries holders large are).large in
+    let table : IsTable value = subst (λ (v : Entries). IsTable v) is (table_is size entries holders are) in
+    let page = table.one_page slot low at in
+    record {
+      entry_is = same ∙ ap (facts_at value) (sym (base_is slot low)) ∙ ap (λ (s : PageSize). facts_at value (page_base s slot)) (sym at);
+      size_is = ap (λ (e : RmpEntry). e.size) same ∙ page.large ∙ sym at;
+      large = λ _. (page, same);
+    }
+
+-- such an entry may be written
+pub page_may : (value : Entries) (slot : ℕ) (entry : RmpEntry) → IsTable value → slot < 512 → entry.size ≡ (facts_at value slot).size → (entry.size ≡ Large → entry.assigned ≡ true) → (entry.size ≡ Large → entry.gpn % 512 ≡ 0) → entry.size ≡ Large → IsRegionEntry value 0 entry
+page_may value slot entry table low size assigned aligned large =
+    let page = table.one_page slot low (sym size ∙ large) in
+    record { assigned = assigned large; first = refl; aligned = aligned large; one_holder = page.one_holder }
+
+pub written_at_base : (value : Entries) (slot : ℕ) (entry : RmpEntry) → slot < 512 → entry.size ≡ Large → with_entry 0 entry (facts_at value) ≡ with_entry (page_base entry.size slot) entry (facts_at value)
+written_at_base value slot entry low large =
+    ap (λ (b : ℕ). with_entry b entry (facts_at value)) (sym (base_is slot low) ∙ ap (λ (s : PageSize). page_base s slot) (sym large))
+
+pub written_at_slot : (value : Entries) (slot : ℕ) (entry : RmpEntry) → entry.size ≡ Small → with_entry slot entry (facts_at value) ≡ with_entry (page_base entry.size slot) entry (facts_at value)
+written_at_slot value slot entry small = ap (λ (s : PageSize). with_entry (page_base s slot) entry (facts_at value)) (sym small)

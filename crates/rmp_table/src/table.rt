@@ -1,8 +1,8 @@
-ghost use Rattle.std.specs.Prelude.{◌≡◌, ◌≢◌, ℕ, ◌%◌, ◌<◌, length, map, Some, None, replicate, slice_set, IfOk, IsOk, IsErr};
+ghost use Rattle.std.specs.Prelude.{◌≡◌, ◌≢◌, ℕ, ◌%◌, ◌<◌, length, map, Some, None, replicate, slice_set, true, IfOk, IsOk, IsErr};
 ghost use Rattle.std.specs.List.{range_with_len};
 ghost use Rattle.snp_model.specs.declared.entry.PageSize.TheVariants.{Small, Large};
-ghost use Rattle.snp_model.specs.Facts.{free_entry};
-ghost use Rattle.snp_model.specs.Entries.{IsRegionEntry, IsTable, facts_at, facts_within, holder_at, lock_answer, with_entry, with_lock, without_locks};
+ghost use Rattle.snp_model.specs.Facts.{free_entry, page_base};
+ghost use Rattle.snp_model.specs.Entries.{IsOnePage, IsRegionEntry, IsTable, facts_at, facts_within, holder_at, lock_answer, with_entry, with_lock, without_locks};
 ghost use Rattle.snp_model.specs.Locks.{page_lock, range_holder, range_lock};
 ghost use Rattle.snp_model.specs.RmpUpdate.{smashed_facts};
 
@@ -71,6 +71,26 @@ impl RmpRegion {
         self.locks.holder(slot)
     }
 
+    /// The holder of the lowest frame's lock, of those that stand.
+    pub fn lowest_holder(&self) -> Option<u32>
+        ensures { result ≡ range_holder (holder_at self.now) 0 512 }
+    {
+        self.locks.lowest()
+    }
+
+    /// The facts of the first frame of a frame's page, which are the page's entry.
+    pub fn page_entry(&self, slot: usize) -> RmpEntry
+        requires { slot < 512 }
+        ensures entry { result ≡ facts_at self.now (page_base (facts_at self.now slot).size slot) }
+        ensures size { result.size ≡ (facts_at self.now slot).size }
+        ensures large { result.size ≡ Large → IsOnePage self.now × (result ≡ facts_at self.now 0) }
+    {
+        match self.size {
+            PageSize::Small => self.effective(slot),
+            PageSize::Large => self.effective(0),
+        }
+    }
+
     /// Locks a frame's page. InUse where another actor holds the lock; then nothing is changed.
     pub fn lock(&mut self, slot: usize, actor: u32) -> Result<(), InUse>
         requires slot_below { slot < 512 }
@@ -131,6 +151,22 @@ impl RmpRegion {
     {
         self.entries[slot] = entry;
         self.size = entry.size;
+    }
+
+    /// Writes the entry of the page in which a frame stands. Its size stays, and so do the locks.
+    pub fn write_page(&mut self, slot: usize, entry: RmpEntry)
+        requires slot_below { slot < 512 }
+        requires size { entry.size ≡ (facts_at self.old slot).size }
+        requires assigned { entry.size ≡ Large → entry.assigned ≡ true }
+        requires aligned { entry.size ≡ Large → entry.gpn % 512 ≡ 0 }
+        ensures written { facts_at self.new ≡ with_entry (page_base entry.size slot) entry (facts_at self.old) }
+        ensures locks { self.new.holders ≡ self.old.holders }
+    {
+        self.whole();
+        match entry.size {
+            PageSize::Small => self.write_entry(slot, entry),
+            PageSize::Large => self.write_entry(0, entry),
+        }
     }
 
     /// Makes every frame free. The locks stay.
