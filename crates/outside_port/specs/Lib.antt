@@ -1,1 +1,3 @@
+pub mod Adapters
+pub mod Counts
 pub mod Memory

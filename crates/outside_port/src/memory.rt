@@ -1,5 +1,6 @@
 ghost use Rattle.std.specs.Prelude.{◌≡◌, ◌+◌, ◌-◌, ◌^◌, ◌<◌, ◌≤◌, ◌↔◌, min, length, [], ◌++◌, vec_capacity, IfOk, OnErr, IsErr, IsTrue, Contains, take, Some};
 ghost use Rattle.snp_model.specs.Outside.{EndsWhereEmpty, ReadTakes, Rose, WriteAdds};
+ghost use Rattle.outside_port.specs.Counts.{faults_after_read, faults_after_write, one_more};
 
 use crate::{Failed, Sink, Source};
 use std::alloc::{AllocError, Global};
@@ -58,8 +59,10 @@ impl Source for MemorySource {
         ensures failed { OnErr result (Rose self.old.faults self.new.faults) }
         ensures gives { IfOk result (λ n. n ≡ min (min self.old.piece (length buf.old)) (length self.old.left)) }
         ensures fails { IsErr result ↔ Contains self.old.failing self.old.calls }
-        ensures counts { self.new.calls ≡ min (self.old.calls + 1) (2 ^ 64 - 1) }
-        ensures still { IfOk result (λ n. self.new.faults ≡ self.old.faults) }
+        ensures calls { self.new.calls ≡ one_more self.old.calls }
+        ensures counts { self.new.faults ≡ faults_after_read self.old.faults result }
+        ensures piece { self.new.piece ≡ self.old.piece }
+        ensures failing { self.new.failing ≡ self.old.failing }
     {
         let call = self.calls;
         self.calls = call.saturating_add(1);
@@ -138,8 +141,10 @@ impl Sink for MemorySink {
             (λ n. n ≡ 0 → 0 < length bytes.now → Rose self.old.faults self.new.faults) }
         ensures takes { IfOk result (λ n. n ≡ min (length bytes.now) (self.old.room - length self.old.bytes)) }
         ensures fails { IsErr result ↔ Contains self.old.failing self.old.calls }
-        ensures counts { self.new.calls ≡ min (self.old.calls + 1) (2 ^ 64 - 1) }
-        ensures still { IfOk result (λ n. 0 < n → self.new.faults ≡ self.old.faults) }
+        ensures calls { self.new.calls ≡ one_more self.old.calls }
+        ensures counts { self.new.faults ≡ faults_after_write self.old.faults result bytes.now }
+        ensures room { self.new.room ≡ self.old.room }
+        ensures failing { self.new.failing ≡ self.old.failing }
     {
         let call = self.calls;
         self.calls = call.saturating_add(1);

@@ -106,7 +106,7 @@ impl Draft {
         ensures { Grows result self.new.scenario (add_regions self.old.scenario words.now) }
     {
         let regions = read_regions(words)?;
-        if regions > 16 {
+        if regions > Quantity::Regions.most() {
             return Err(LineFault::Limit {
                 quantity: Quantity::Regions,
                 count: regions,
@@ -124,7 +124,7 @@ impl Draft {
     {
         let guest = read_guest(&self.scenario, words)?;
         let count = self.scenario.guests.len() as u64 + 1;
-        if count > 8 {
+        if count > Quantity::Guests.most() {
             return Err(LineFault::Limit {
                 quantity: Quantity::Guests,
                 count,
@@ -170,7 +170,7 @@ impl Draft {
     {
         let role = role?;
         let count = self.scenario.actors.len() as u64 + 1;
-        if count > 32 {
+        if count > Quantity::Actors.most() {
             return Err(LineFault::Limit {
                 quantity: Quantity::Actors,
                 count,
@@ -193,7 +193,7 @@ impl Draft {
         };
         let line = read_item_words(&role, 512 * self.scenario.regions, words)?;
         let attempts = self.attempts + 1 + u32::from(line.retries);
-        if attempts > 8192 {
+        if u64::from(attempts) > Quantity::Attempts.most() {
             return Err(LineFault::Limit {
                 quantity: Quantity::Attempts,
                 count: u64::from(attempts),
@@ -221,7 +221,7 @@ impl Draft {
         let runs = read_turns(words, &mut turns)?;
         let turns = &turns[..runs];
         let count = u64::from(self.turns) + count_turns(turns);
-        if count > 262_144 {
+        if count > Quantity::Order.most() {
             return Err(LineFault::Limit {
                 quantity: Quantity::Order,
                 count,

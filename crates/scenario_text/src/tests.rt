@@ -14,7 +14,7 @@ const REFUSED: [(&str, u32, Reason); 52] = [
     ("snp 1\nregions 1\nend", 3, Reason::Cut),
     ("# no line feed", 1, Reason::Cut),
     ("\r\n", 1, Reason::Form),
-    ("snp 2\n", 1, Reason::Form),
+    ("snp 3\n", 1, Reason::Form),
     ("snp 0x1\n", 1, Reason::Form),
     ("snp 1\nend\n", 2, Reason::Form),
     ("snp 1\nregions \n", 2, Reason::Number),
@@ -215,7 +215,7 @@ fn is_limited(alloc: Global, text: &str, of: Quantity, most: u64) -> bool {
 
 // A text with a line of each form.
 const WHOLE: &str =
-    "snp 1\nregions 1\nguest 1 opened asid 5 iv 0 key 00000000000000000000000000000000000000000000000000000000000000ff\npage 0x3 of 1 at 7 4k invalid 1 2 0xf\nword 3 511 0xffffffffffffffff\n# actors\nactor 1 cpu 1 vmpl 3 npt 9 flat\nload 8\nstore 0xfffffffffffffff8 2\nswap 0x10 5\ncas 0x10 5 6\nxor 0x10 3\nskip 1 if ok\nactor 2 host\nstore 0x1ffff8 0\nload 0x1ffff8\nskip 2 if bad\nskip 8192 if value 7\nactor 3 cpu 1 vmpl 1 npt 0x1ff gcr3 0xfffffffff\nload 0\norder 1*2 2\n\norder 7\nend\n";
+    "snp 2\nregions 1\nguest 1 opened asid 5 iv 0 key 00000000000000000000000000000000000000000000000000000000000000ff\npage 0x3 of 1 at 7 4k invalid 1 2 0xf\nword 3 511 0xffffffffffffffff\n# actors\nactor 1 cpu 1 vmpl 3 npt 9 flat\nload 8\nstore 0xfffffffffffffff8 2\nswap 0x10 5\ncas 0x10 5 6\nxor 0x10 3\nskip 1 if ok\nactor 2 host\nstore 0x1ffff8 0\nload 0x1ffff8\nskip 2 if bad\nskip 8192 if value 7\nactor 3 cpu 1 vmpl 1 npt 0x1ff gcr3 0xfffffffff\nload 0\nactor 4 cpu 1 vmpl 1 npt 511 la57 1\norder 1*2 2\n\norder 7\nend\n";
 
 fn access(address: u64, op: Op) -> Item {
     Item::Access { address, op }
@@ -246,6 +246,14 @@ const WITH_TABLES: Role = Role::Cpu {
     vmpl: 1,
     npt: 511,
     paging: Paging::Four(0xf_ffff_ffff),
+};
+
+// One whose guest tables have five levels, from the guest's page 1 on.
+const WITH_FIVE_LEVELS: Role = Role::Cpu {
+    guest: 1,
+    vmpl: 1,
+    npt: 511,
+    paging: Paging::Five(1),
 };
 
 // Lines of items that are refused in a memory of one region, whose last address is 0x1fffff.
@@ -414,7 +422,8 @@ fn is_whole(scenario: &Scenario) -> bool {
         Turn { actor: 2, count: 1 },
         Turn { actor: 7, count: 1 },
     ];
-    scenario.regions == 1
+    scenario.version == 2
+        && scenario.regions == 1
         && scenario.guests.as_slice() == [guest].as_slice()
         && scenario.pages.as_slice() == [page].as_slice()
         && scenario.words.as_slice() == [word].as_slice()
@@ -438,13 +447,15 @@ fn are_actors(scenario: &Scenario) -> bool {
         once(skip(8192, SkipTest::Value(7))),
     ];
     match scenario.actors.as_slice() {
-        [first, second, third] => {
+        [first, second, third, fourth] => {
             first.role == CPU
                 && first.script.as_slice() == cpu_items.as_slice()
                 && second.role == Role::Host
                 && second.script.as_slice() == host_items.as_slice()
                 && third.role == WITH_TABLES
                 && third.script.as_slice() == [once(access(0, Op::Load))].as_slice()
+                && fourth.role == WITH_FIVE_LEVELS
+                && fourth.script.is_empty()
         }
         _ => false,
     }

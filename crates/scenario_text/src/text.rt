@@ -12,9 +12,6 @@ use script_text::words::{Words, cut};
 use snp_model::{Quantity, Reason, Scenario};
 use std::alloc::{AllocError, Global};
 
-/// The most bytes of a text.
-const MOST_BYTES: u64 = 4_194_304;
-
 // A fault of a line, at its number.
 fn at_line(line: u32, fault: LineFault) -> ScenarioFault
     ensures { SaysFault line fault result }
@@ -74,10 +71,10 @@ fn read_lines(alloc: Global, text: &[u8]) -> Result<Scenario, ScenarioFault>
 pub fn read_scenario(alloc: Global, text: &[u8]) -> Result<Scenario, ScenarioFault>
     ensures { Answers result text.now }
 {
-    if text.len() as u64 > MOST_BYTES {
+    if text.len() as u64 > Quantity::Bytes.most() {
         return Err(ScenarioFault::Limit {
             quantity: Quantity::Bytes,
-            count: MOST_BYTES + 1,
+            count: Quantity::Bytes.most() + 1,
         });
     }
     read_lines(alloc, text)

@@ -1,12 +1,12 @@
 -- Pages of a region of the RMP that are changed as a whole.
-use Rattle.std.proofs.Common.{◌≡◌, ℕ, ◌+◌, ◌-◌, ◌*◌, ◌/◌, ◌<◌, ◌≤◌, true, false, refl, sym, ap, ◌∙◌, inl, inr, arith}
-use Rattle.std.proofs.lemmas.Bool.{cases_Bool, cond-true, cond-false}
+use Rattle.std.proofs.Common.{◌≡◌, ℕ, List, Option, None, get_or, ◌+◌, ◌-◌, ◌*◌, ◌/◌, ◌%◌, ◌<◌, ◌≤◌, true, false, refl, sym, ap, ◌∙◌, inl, inr, arith}
+use Rattle.std.proofs.lemmas.Bool.{cases_Bool, cases_lt, cond-true, cond-false}
 use Rattle.std.proofs.lemmas.Bool.Decides.{nat_tests}
 use Rattle.snp_model.specs.declared.entry.RmpEntry.{RmpEntry}
 use Rattle.snp_model.specs.declared.entry.PageSize.{PageSize}
 use Rattle.snp_model.specs.declared.entry.PageSize.TheVariants.{Small, Large}
-use Rattle.snp_model.specs.Entries.{Entries, IsTable, facts_at, facts_within, with_entry}
-use Rattle.snp_model.specs.Facts.{frames_in, page_base}
+use Rattle.snp_model.specs.Entries.{Entries, IsOnePage, IsTable, facts_at, facts_within, holder_at, with_entry}
+use Rattle.snp_model.specs.Facts.{free_entry, frames_in, page_base}
 use Rattle.snp_model.specs.Locks.{in_range, over, over_lock, page_lock}
 
 inside : (base count k : ℕ) → in_range base count k ≡ true → (base ≤ k) × (k < base + count)
@@ -75,3 +75,10 @@ page_changed rmp slot change entry table low of is size =
     ap (λ (s : PageSize). over (page_base s slot) (frames_in s) (λ place old. facts_within entry place) (facts_at rmp)) size
     ∙ ap (λ (e : RmpEntry). over (page_base (facts_at rmp slot).size slot) (frames_in (facts_at rmp slot).size) (λ place old. facts_within e place) (facts_at rmp)) is
     ∙ changed_by rmp slot (facts_at rmp slot).size change table low of refl
+
+-- what is told by frame stays where the lists stay
+pub same_facts : (new old : Entries) → new.facts ≡ old.facts → facts_at new ≡ facts_at old
+same_facts new old same = λ i k. get_or (same i) k free_entry
+
+pub same_holders : (new old : Entries) → new.holders ≡ old.holders → holder_at new ≡ holder_at old
+same_holders new old same = λ i k. get_or (same i) k None

@@ -31,6 +31,7 @@ use Rattle.snp_model.specs.declared.reading.Quantity.{Quantity}
 use Rattle.snp_model.specs.declared.reading.Quantity.TheVariants as quantities
 use Rattle.snp_model.specs.Reading.{Made, nothing, reading, closed, Fault, refused, is_passed_over, turns_spell, order_of, by_rule, within, fit, fit_line, fit_words, add_regions, add_guest, add_page, add_word, add_actor, add_line, add_item_of, add_item, add_order, add_words, turns_count, Makes, Valid}
 use Rattle.snp_model.specs.ScenarioLines.{frames_of, regions_row, turn_from, turn_parts, turn_of, turns_after, is_order_row, order_row, version_of, version_row, first_scenario, has_five_levels, tables_at, has_no, before_pages, before_words, before_actors, before_orders, idle, opening, opened_of, next_number, page_size, guest_row, page_row, word_row, cpu_row, tables_row, host_row, with_line, has_asid, is_opened, is_declared, apart, collide, key_of, validity}
+use Rattle.snp_model.specs.Limits.{most}
 use Rattle.snp_model.specs.Bounds.{IsPaging, IsCpu, IsRole, IsSkip, IsItemOf, IsLineOf}
 use Rattle.snp_model.specs.Sound.{Pairwise, IsGuest, AsidsDiffer, IsPage, FramesDiffer, GpnsDiffer, IsWord, IsActor, IsTurn, IsSound}
 
@@ -79,19 +80,19 @@ multiple_ok unit n m h =
 pub record IsDraft (c : Scenario) : Type 0 where
   pub version_some : 1 ≤ c.version
   pub version_most : c.version ≤ 2
-  pub regions_most : c.regions ≤ 16
-  pub guests_most : length c.guests ≤ 8
+  pub regions_most : c.regions ≤ most quantities.Regions
+  pub guests_most : length c.guests ≤ most quantities.Guests
   pub guests : AllByRecursion IsGuest c.guests
   pub asids_differ : Pairwise AsidsDiffer c.guests
   pub pages : AllByRecursion (IsPage (frames_of c) (length c.guests)) c.pages
   pub frames_differ : Pairwise FramesDiffer c.pages
   pub gpns_differ : Pairwise GpnsDiffer c.pages
   pub words : AllByRecursion (IsWord (frames_of c)) c.words
-  pub actors_most : length c.actors ≤ 32
+  pub actors_most : length c.actors ≤ most quantities.Actors
   pub actors : AllByRecursion (IsActor (frames_of c) (length c.guests)) c.actors
-  pub attempts_most : attempts_of c ≤ 8192
+  pub attempts_most : attempts_of c ≤ most quantities.Attempts
   pub order : AllByRecursion IsTurn c.order
-  pub order_most : turns_count c.order ≤ 262144
+  pub order_most : turns_count c.order ≤ most quantities.Order
 
 all_push : {X : Type 0} (P : X → Type 0) (xs : List X) (x : X) → AllByRecursion P xs → P x → AllByRecursion P (xs ++ x ∷ [])
 all_push P [] x all one = (one, tt)
@@ -494,16 +495,16 @@ rule_ok : {A : Type 0} (r : Result A Reason) (x : A) → by_rule r ≡ Ok x → 
 rule_ok (Ok y) x h = let e : y ≡ x = cc in ap (λ (z : _). Ok z) e
 rule_ok (Err e) x h = absurd (cc)
 
-within_ok : (quantity : Quantity) (most count : ℕ) (c : Scenario) (next : Made) → within quantity most count c ≡ Ok next → (count ≤ most) × (reading c ≡ next)
-within_ok quantity most count c next h =
-    let one = guard_ok (nat_le count most) (reading c) next _ h in
+within_ok : (quantity : Quantity) (count : ℕ) (c : Scenario) (next : Made) → within quantity count c ≡ Ok next → (count ≤ most quantity) × (reading c ≡ next)
+within_ok quantity count c next h =
+    let one = guard_ok (nat_le count (most quantity)) (reading c) next _ h in
     (grind (arith, nat_tests, one.0), one.1)
 
 regions_keep : (c : Scenario) (ws : List (List ℕ)) (next : Made) → IsDraft c → (c.regions == 0) ≡ true → add_regions c ws ≡ Ok next → IsMade next
 unfolding add_regions attempts_of
 regions_keep c ws next draft none h =
-    let row = bind_ok (by_rule (regions_row ws)) (λ (n : ℕ). within quantities.Regions 16 n (record c { regions = n })) next h in
-    let fits = within_ok quantities.Regions 16 row.0 (record c { regions = row.0 }) next row.2 in
+    let row = bind_ok (by_rule (regions_row ws)) (λ (n : ℕ). within quantities.Regions n (record c { regions = n })) next h in
+    let fits = within_ok quantities.Regions row.0 (record c { regions = row.0 }) next row.2 in
     let zero_now : c.regions ≡ 0 = grind (arith, nat_tests, none) in
     let more : frames_of c ≤ 512 * row.0 = omega arith in
     let same : length c.guests ≤ length c.guests = omega arith in
@@ -529,10 +530,10 @@ regions_keep c ws next draft none h =
 guests_keep : (c : Scenario) (ws : List (List ℕ)) (next : Made) → IsDraft c → add_guest c ws ≡ Ok next → IsMade next
 unfolding add_guest attempts_of
 guests_keep c ws next draft h =
-    let row = bind_ok (by_rule (guest_row c ws)) (λ (g : GuestSpec). within quantities.Guests 8 (length c.guests + 1) (record c { guests = c.guests ++ g ∷ [] })) next h in
+    let row = bind_ok (by_rule (guest_row c ws)) (λ (g : GuestSpec). within quantities.Guests (length c.guests + 1) (record c { guests = c.guests ++ g ∷ [] })) next h in
     let facts = guest_row_ok c ws row.0 (rule_ok (guest_row c ws) row.0 row.1) in
     let new : Scenario = record c { guests = c.guests ++ row.0 ∷ [] } in
-    let fits = within_ok quantities.Guests 8 (length c.guests + 1) new next row.2 in
+    let fits = within_ok quantities.Guests (length c.guests + 1) new next row.2 in
     let longer : length (c.guests ++ row.0 ∷ []) ≡ length c.guests + 1 = length-append c.guests (row.0 ∷ []) in
     let more : length c.guests ≤ length (c.guests ++ row.0 ∷ []) = omega arith in
     let same : frames_of c ≤ frames_of c = omega arith in
@@ -613,10 +614,10 @@ attempts_push (actor ∷ actors) role = ap (λ (n : ℕ). script_attempts actor.
 actors_keep : (c : Scenario) (row : Result Role Reason) (next : Made) → IsDraft c → ((role : Role) → row ≡ Ok role → IsRole (frames_of c) (length c.guests) role) → add_actor c row ≡ Ok next → IsMade next
 unfolding add_actor attempts_of
 actors_keep c row next draft are h =
-    let made = bind_ok (by_rule row) (λ (r : Role). within quantities.Actors 32 (length c.actors + 1) (record c { actors = c.actors ++ idle r ∷ [] })) next h in
+    let made = bind_ok (by_rule row) (λ (r : Role). within quantities.Actors (length c.actors + 1) (record c { actors = c.actors ++ idle r ∷ [] })) next h in
     let row_is = rule_ok row made.0 made.1 in
     let new : Scenario = record c { actors = c.actors ++ idle made.0 ∷ [] } in
-    let fits = within_ok quantities.Actors 32 (length c.actors + 1) new next made.2 in
+    let fits = within_ok quantities.Actors (length c.actors + 1) new next made.2 in
     let longer : length (c.actors ++ idle made.0 ∷ []) ≡ length c.actors + 1 = length-append c.actors (idle made.0 ∷ []) in
     subst IsMade fits.1 (let kept : IsDraft new = record {
       version_some = draft.version_some;
@@ -631,7 +632,7 @@ actors_keep c row next draft are h =
       words = draft.words;
       actors_most = let most = fits.0 in omega arith;
       actors = all_push (IsActor (frames_of c) (length c.guests)) c.actors (idle made.0) draft.actors (record { role = are made.0 row_is; script = tt });
-      attempts_most = subst (λ (n : ℕ). n ≤ 8192) (sym (attempts_push c.actors made.0)) draft.attempts_most;
+      attempts_most = subst (λ (n : ℕ). n ≤ most quantities.Attempts) (sym (attempts_push c.actors made.0)) draft.attempts_most;
       order = draft.order;
       order_most = draft.order_most;
     } in kept)
@@ -639,9 +640,9 @@ actors_keep c row next draft are h =
 orders_keep : (c : Scenario) (ws : List (List ℕ)) (next : Made) → IsDraft c → add_order c ws ≡ Ok next → IsMade next
 unfolding add_order order_row attempts_of
 orders_keep c ws next draft h =
-    let row = bind_ok (by_rule (order_row ws)) (λ (ts : List Turn). within quantities.Order 262144 (turns_count (c.order ++ ts)) (record c { order = c.order ++ ts })) next h in
+    let row = bind_ok (by_rule (order_row ws)) (λ (ts : List Turn). within quantities.Order (turns_count (c.order ++ ts)) (record c { order = c.order ++ ts })) next h in
     let new : Scenario = record c { order = c.order ++ row.0 } in
-    let fits = within_ok quantities.Order 262144 (turns_count (c.order ++ row.0)) new next row.2 in
+    let fits = within_ok quantities.Order (turns_count (c.order ++ row.0)) new next row.2 in
     subst IsMade fits.1 (let kept : IsDraft new = record {
       version_some = draft.version_some;
       version_most = draft.version_most;
@@ -674,7 +675,7 @@ items_keep c ws (Some last) next is draft h =
     let line = bind_ok (by_rule (item_words last.role (frames_of c) ws)) (λ (l : Line). add_line c last l) next h in
     let one = item_ok (frames_of c) last.role ws line.0 (rule_ok (item_words last.role (frames_of c) ws) line.0 line.1) in
     let new : Scenario = record c { actors = with_line c.actors line.0 last } in
-    let fits = within_ok quantities.Attempts 8192 (attempts_of new) new next line.2 in
+    let fits = within_ok quantities.Attempts (attempts_of new) new next line.2 in
     let old = at_end (IsActor (frames_of c) (length c.guests)) c.actors (length c.actors - 1) last draft.actors is in
     let more : Actor = record last { script = last.script ++ line.0 ∷ [] } in
     let same_length = with_line_length c.actors line.0 last is in
@@ -722,7 +723,7 @@ draft_sound c draft some =
       actors = draft.actors;
       attempts_most = draft.attempts_most;
       order = draft.order;
-      order_most = subst (λ (n : ℕ). n ≤ 262144) (sym (turns_length c.order)) draft.order_most;
+      order_most = subst (λ (n : ℕ). n ≤ most quantities.Order) (sym (turns_length c.order)) draft.order_most;
     }
 
 item_keeps : (c : Scenario) (ws : List (List ℕ)) (next : Made) → IsDraft c → add_item c ws ≡ Ok next → IsMade next

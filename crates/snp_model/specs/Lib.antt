@@ -24,6 +24,7 @@ pub mod Holders
 pub mod InstructionStep
 pub mod ItemLines
 pub mod Journal
+pub mod Limits
 pub mod Lines
 pub mod Live
 pub mod Locks

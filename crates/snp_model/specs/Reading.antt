@@ -10,6 +10,7 @@ use Rattle.snp_model.specs.declared.scenario.Role.{Role}
 use Rattle.snp_model.specs.declared.scenario.Turn.{Turn}
 use Rattle.snp_model.specs.declared.item.Line.{Line}
 use Rattle.snp_model.specs.Attempts.{attempts_of}
+use Rattle.snp_model.specs.Limits.{most}
 use Rattle.snp_model.specs.Lines.{◌>>=◌, parts_at, words_of, word, is_plain, is_row}
 use Rattle.snp_model.specs.ItemLines.{item_words}
 use Rattle.snp_model.specs.ScenarioLines.{frames_of, has_no, before_orders, before_actors, before_words, before_pages, first_scenario, version_row, regions_row, guest_row, page_row, word_row, idle, cpu_row, tables_row, host_row, with_line, is_order_row, order_row}
@@ -45,19 +46,19 @@ by_rule (Ok x) = Ok x
 by_rule (Err reason) = Err (refused reason)
 
 -- what a line makes, where a quantity stays within its limit
-abbrev pub within : Quantity → ℕ → ℕ → Scenario → Result Made Fault
-within quantity most count c = if nat_le count most then Ok (reading c) else Err (passes quantity count)
+abbrev pub within : Quantity → ℕ → Scenario → Result Made Fault
+within quantity count c = if nat_le count (most quantity) then Ok (reading c) else Err (passes quantity count)
 
 -- each form with what it makes of the scenario
 unfoldable pub add_regions : Scenario → List (List ℕ) → Result Made Fault
 add_regions c ws = do
   regions ← by_rule (regions_row ws)
-  within Regions 16 regions (record c { regions = regions })
+  within Regions regions (record c { regions = regions })
 
 unfoldable pub add_guest : Scenario → List (List ℕ) → Result Made Fault
 add_guest c ws = do
   guest ← by_rule (guest_row c ws)
-  within Guests 8 (length c.guests + 1) (record c { guests = c.guests ++ guest ∷ [] })
+  within Guests (length c.guests + 1) (record c { guests = c.guests ++ guest ∷ [] })
 
 unfoldable pub add_page : Scenario → List (List ℕ) → Result Made Fault
 add_page c ws = do
@@ -72,12 +73,12 @@ add_word c ws = do
 unfoldable pub add_actor : Scenario → Result Role Reason → Result Made Fault
 add_actor c row = do
   role ← by_rule row
-  within Actors 32 (length c.actors + 1) (record c { actors = c.actors ++ idle role ∷ [] })
+  within Actors (length c.actors + 1) (record c { actors = c.actors ++ idle role ∷ [] })
 
 unfoldable pub add_line : Scenario → Actor → Line → Result Made Fault
 add_line c last line =
     let next : Scenario = record c { actors = with_line c.actors line last } in
-    within Attempts 8192 (attempts_of next) next
+    within Attempts (attempts_of next) next
 
 abbrev pub add_item_of : Scenario → List (List ℕ) → Option Actor → Result Made Fault
 add_item_of c ws None = Err (refused Form)
@@ -91,7 +92,7 @@ add_item c ws = if has_no c.order then add_item_of c ws (slice_get c.actors (len
 unfoldable pub add_order : Scenario → List (List ℕ) → Result Made Fault
 add_order c ws = do
   turns ← by_rule (order_row ws)
-  within Order 262144 (turns_count (c.order ++ turns)) (record c { order = c.order ++ turns })
+  within Order (turns_count (c.order ++ turns)) (record c { order = c.order ++ turns })
 
 -- which form a line has by its first word and its count of words, among those that may stand here; an item needs an actor
 unfoldable pub add_words : Scenario → List (List ℕ) → Result Made Fault
@@ -143,7 +144,7 @@ Makes made (line ∷ lines) next = (middle : Made) × Fits made line middle × M
 
 -- the most bytes of a text
 abbrev pub most_bytes : ℕ
-most_bytes = 4194304
+most_bytes = most Bytes
 
 -- a text that isn't too long is these lines, each with its line feed, and then a rest without one
 pub record IsText (text : List ℕ) (lines : List (List ℕ)) (rest : List ℕ) : Type 0 where

@@ -8,9 +8,11 @@ use Rattle.snp_model.specs.declared.scenario.PageSpec.{PageSpec}
 use Rattle.snp_model.specs.declared.scenario.WordSpec.{WordSpec}
 use Rattle.snp_model.specs.declared.scenario.Turn.{Turn}
 use Rattle.snp_model.specs.declared.scenario.Actor.{Actor}
+use Rattle.snp_model.specs.declared.reading.Quantity.TheVariants.{Regions, Guests, Actors, Attempts, Order}
 use Rattle.snp_model.specs.Bounds.{IsRole, IsLineOf}
 use Rattle.snp_model.specs.ScenarioLines.{frames_of}
 use Rattle.snp_model.specs.Attempts.{attempts_of}
+use Rattle.snp_model.specs.Limits.{most}
 use Rattle.snp_model.specs.Reading.{order_of}
 
 -- a relation between each element and each later one
@@ -64,16 +66,16 @@ pub record IsSound (c : Scenario) : Type 0 where
   pub version_some : 1 ≤ c.version
   pub version_most : c.version ≤ 2
   pub regions_some : 0 < c.regions
-  pub regions_most : c.regions ≤ 16
-  pub guests_most : length c.guests ≤ 8
+  pub regions_most : c.regions ≤ most Regions
+  pub guests_most : length c.guests ≤ most Guests
   pub guests : AllByRecursion IsGuest c.guests
   pub asids_differ : Pairwise AsidsDiffer c.guests
   pub pages : AllByRecursion (IsPage (frames_of c) (length c.guests)) c.pages
   pub frames_differ : Pairwise FramesDiffer c.pages
   pub gpns_differ : Pairwise GpnsDiffer c.pages
   pub words : AllByRecursion (IsWord (frames_of c)) c.words
-  pub actors_most : length c.actors ≤ 32
+  pub actors_most : length c.actors ≤ most Actors
   pub actors : AllByRecursion (IsActor (frames_of c) (length c.guests)) c.actors
-  pub attempts_most : attempts_of c ≤ 8192
+  pub attempts_most : attempts_of c ≤ most Attempts
   pub order : AllByRecursion IsTurn c.order
-  pub order_most : length (order_of c) ≤ 262144
+  pub order_most : length (order_of c) ≤ most Order

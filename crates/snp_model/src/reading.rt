@@ -1,3 +1,6 @@
+ghost use Rattle.std.specs.Prelude.{◌≡◌};
+ghost use Rattle.snp_model.specs.Limits.{most};
+
 /// Why a line of a text was refused: the first reason that applies. The texts are this project's own.
 #[derive(Clone, Copy, Debug, PartialEq, Eq)]
 pub enum Reason {
@@ -24,16 +27,32 @@ pub enum Reason {
 /// What a limit counts.
 #[derive(Clone, Copy, Debug, PartialEq, Eq)]
 pub enum Quantity {
-    /// Bytes of a text, at most 4,194,304.
+    /// Bytes of a text.
     Bytes,
-    /// Regions of memory, at most 16.
+    /// Regions of memory.
     Regions,
-    /// Guests, at most 8.
+    /// Guests.
     Guests,
-    /// Actors, at most 32.
+    /// Actors.
     Actors,
-    /// Items and their retries, at most 8,192.
+    /// Items and their retries.
     Attempts,
-    /// Entries of a schedule, at most 262,144.
+    /// Entries of a schedule.
     Order,
+}
+
+impl Quantity {
+    /// The most that a text may make of it.
+    pub fn most(self) -> u64
+        ensures { result ≡ most self }
+    {
+        match self {
+            Quantity::Bytes => 4_194_304,
+            Quantity::Regions => 16,
+            Quantity::Guests => 8,
+            Quantity::Actors => 32,
+            Quantity::Attempts => 8192,
+            Quantity::Order => 262_144,
+        }
+    }
 }

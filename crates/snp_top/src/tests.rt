@@ -210,7 +210,7 @@ fn small_report(rt: &HostRuntime, sink: &mut MemorySink) -> Result<bool, Fail> {
             digest: [0xc5; 48]
         },
     ]?;
-    Ok(write_report(&journal, &guests, sink).is_ok())
+    Ok(write_report(1, &journal, &guests, sink).is_ok())
 }
 
 const REPORT: &str = "snp-report 1

@@ -1,4 +1,4 @@
-use Rattle.std.proofs.Common.{◌≡◌, ◌%◌, ℕ, List, [], ◌∷◌, ◌++◌, take, ap, ◌∙◌, arith, false}
+use Rattle.std.proofs.Common.{◌≡◌, ◌%◌, arith, false}
 use Rattle.std.proofs.lemmas.Fmt.{hex_one_digit}
 use Rattle.report_text.proofs.Digits.{PAIRS_at}
 use Rattle.report_text.proofs.base16.put_digit.Goals as goal

@@ -1,4 +1,3 @@
-use Rattle.std.proofs.Common.{ℕ, List, [], ◌∷◌, ◌++◌, take, ap, ◌∙◌, arith}
 use Rattle.report_text.proofs.Digits.{PAIRS_at}
 use Rattle.report_text.proofs.base16.put_pair.Goals as goal
 

@@ -1,4 +1,4 @@
-use Rattle.std.proofs.Common.{◌≡◌, ◌++◌, ℕ, List, [], length, vec_capacity, ap, ◌∙◌, subst, arith}
+use Rattle.std.proofs.Common.{◌≡◌, ◌++◌, ℕ, List, [], length, vec_capacity, refl, ap, ◌∙◌, subst, arith}
 use Rattle.machine_core.specs.Machine.{state_of}
 use Rattle.snp_model.specs.declared.event.Event.{Event}
 use Rattle.snp_model.specs.declared.scenario.Turn.{Turn}
@@ -59,6 +59,7 @@ returns-in-Ok-clause-answer c =
     let empty : c.in_ok-journal.journal.list ≡ [] = ap (λ (j : JournalImage). j.list) c.in_ok-journal.ensures in
     record {
       defined = subst (λ (k : State). IsDefinedFrom k (turns_spell scenario.order)) opens (subst (λ (s : List ℕ). IsDefinedFrom m s) order plays.defined);
+      version = refl;
       events = plays.events ∙ ap (λ (l : List (ℕ × Event)). l ++ run_from m (turns_spell c.as_slice-2.result.now)) empty ∙ (λ i. run_from (opens i) (order i));
       guests = c.take_guests.ensures ∙ ap lines_of (plays.state ∙ (λ i. state_from (opens i) (order i)));
     }
@@ -83,3 +84,8 @@ returns-in-Ok-clause-short c =
     let lengths : length c.play.new.journal.list ≡ length (turns_spell scenario.order) = ap length events ∙ length_run m (turns_spell c.as_slice-2.result.now) ∙ ap (λ (ts : List Turn). length (turns_spell ts)) c.as_slice-2.ensures in
     let short = order_short scenario (valid_is_sound scenario c.requires) in
     omega arith
+
+pub returns-in-Ok-clause-version : goal.returns-in-Ok-clause-version
+returns-in-Ok-clause-version c =
+    let sound = valid_is_sound c.args.scenario.now c.requires in
+    (sound.version_some, sound.version_most)
