@@ -20,6 +20,7 @@ pub mod RangeLaws
 pub mod ReadingLaws
 pub mod ReadyLaws
 pub mod RegionLaws
+pub mod RegionPagesLaws
 pub mod RoomLaws
 pub mod RunLaws
 pub mod ShapeLaws

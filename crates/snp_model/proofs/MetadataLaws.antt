@@ -1,16 +1,18 @@
 -- What is written to an entry of a metadata page stands there, and the other entries stay.
-use Rattle.std.proofs.Common.{◌≡◌, ◌≢◌, ℕ, zero, suc, ◌+◌, ◌*◌, ◌^◌, ◌<◌, ◌≤◌, ◌==◌, Bool, true, false, not, List, [], ◌∷◌, ◌++◌, length, get_or, take, drop, replicate, Some, None, refl, sym, ap, ◌∙◌, inl, inr, arith, length-append, length-drop, drop-drop}
-use Rattle.std.specs.Int.{w16, w64, to_le_bytes}
+use Rattle.std.proofs.Common.{◌≡◌, ◌≢◌, ℕ, zero, suc, ◌+◌, ◌*◌, ◌%◌, ◌^◌, ◌<◌, ◌≤◌, ◌==◌, Bool, true, false, not, ◌&&◌, ◌||◌, cond, IfSome, List, [], ◌∷◌, ◌++◌, length, get_or, take, drop, replicate, Option, Some, None, refl, sym, ap, ◌∙◌, inl, inr, arith, length-append, length-drop, drop-drop, drop-cons}
+use Rattle.std.specs.Int.{w16, w64, to_le_bytes, from_le_bytes}
 use Rattle.std.proofs.lemmas.List.{drop-take, length-take, get_or-take, get_or-drop}
 use Rattle.std.proofs.lemmas.Grind.{same_number_lists}
 use Rattle.std.proofs.lemmas.Nat.{from_le_bytes-to_le_bytes_2, from_le_bytes-to_le_bytes_8}
 use Rattle.std.proofs.lemmas.Slice.{take-put_mid_below, take-put_mid, drop-put_mid}
-use Rattle.std.proofs.lemmas.Bool.{cases_lt}
+use Rattle.std.specs.List.{list_all, range_with_len}
+use Rattle.std.proofs.lemmas.Bool.{cases_eq, cases_lt, eq-eqb, eqb-true}
+use Rattle.std.proofs.Math.Bool.{and-false}
 use borrow.Rule.Slice.PartMut.{put_mid}
 use Rattle.std.proofs.Math.Seq.{drop-append_seam, take-append_seam}
 use Rattle.snp_model.specs.declared.firmware.MetaEntry.{MetaEntry}
 use Rattle.snp_model.specs.Measurement.{page_bytes}
-use Rattle.snp_model.specs.Metadata.{AreBytes, IsMetaEntry, cleared, entry_at, entry_bytes, entry_from, flag_byte, slot, with_entry, with_slot, words_of_bytes}
+use Rattle.snp_model.specs.Metadata.{AreBytes, IsMetaEntry, cleared, entry_at, entry_bytes, entry_from, flag_byte, is_owned, owned, slot, with_entry, with_slot, words_of_bytes}
 use Rattle.snp_model.proofs.PageBytesLaws.{are_both, are_short, are_word, are_zeros, length-words_of_bytes, page_bytes-words_of_bytes}
 
 -- ---- the eight words of an entry
@@ -25,6 +27,11 @@ unfolding slot
 slot_of words new number room long same =
     same_number_lists new (slot words number) (long ∙ sym (length-slot words number room))
     (λ k h. same k (omega arith) ∙ sym (get_or-take 8 (drop (8 * number) words) k 0 (omega arith) ∙ get_or-drop (8 * number) words k 0))
+
+-- the first of them
+pub slot_first : (words : List ℕ) (number : ℕ) → 8 * number < length words → slot words number ≡ get_or words (8 * number) 0 ∷ take 7 (drop (suc (8 * number)) words)
+unfolding slot
+slot_first words number room = ap (take 8) (drop-cons words (8 * number) 0 room)
 
 -- as std writes it
 as_put_mid : (words : List ℕ) (number : ℕ) (new : List ℕ) → with_slot words number new ≡ put_mid (8 * number) 8 words new
@@ -154,3 +161,57 @@ slot-with_entry_other words number other entry four sixteen long below apart =
 pub slot-cleared_other : (words : List ℕ) (number other : ℕ) → length words ≡ 512 → number < 64 → other ≢ number → slot (cleared words number) other ≡ slot words other
 unfolding cleared
 slot-cleared_other words number other long below apart = slot-with_slot_other words number other (replicate 8 0) (omega arith) refl apart
+
+-- ---- whose entries they are
+
+-- each of some numbers passes a test, or one of them doesn't
+list_all-range : (test : ℕ → Bool) (a n : ℕ) → ((k : ℕ) → a ≤ k → k < a + n → test k ≡ true) → list_all test (range_with_len a n) ≡ true
+list_all-range test a zero each = refl
+list_all-range test a (suc n) each =
+    ap (λ (b : Bool). b && list_all test (range_with_len (a + 1) n)) (each a (omega arith) (omega arith))
+    ∙ list_all-range test (a + 1) n (λ k low high. each k (omega arith) (omega arith))
+
+list_all-not : (test : ℕ → Bool) (a n k : ℕ) → a ≤ k → k < a + n → test k ≡ false → list_all test (range_with_len a n) ≡ false
+list_all-not test a zero k low high fails = absurd (omega arith)
+list_all-not test a (suc n) k low high fails = elim (cases_eq a k) [
+  | inl here ↦ ap (λ (b : Bool). b && list_all test (range_with_len (a + 1) n)) (ap test here ∙ fails)
+  | inr past ↦ ap (λ (b : Bool). test a && b) (list_all-not test (a + 1) n k (omega (arith, past)) (omega arith) fails) ∙ and-false (test a)
+]
+
+-- the entries in use of a page have an ASID where each of them has it, and don't where one has another
+pub owned_all : (words : List ℕ) (asid : ℕ) → ((number : ℕ) → number < 64 → is_owned asid (entry_at words number) ≡ true) → owned words asid ≡ true
+unfolding owned
+owned_all words asid each = list_all-range (λ number. is_owned asid (entry_at words number)) 0 64 (λ number low high. each number (omega arith))
+
+pub owned_not : (words : List ℕ) (asid number : ℕ) → number < 64 → is_owned asid (entry_at words number) ≡ false → owned words asid ≡ false
+unfolding owned
+owned_not words asid number below other = list_all-not (λ number. is_owned asid (entry_at words number)) 0 64 number (omega arith) (omega arith) other
+
+-- an entry has an ASID, if it is in use
+pub owned_entry : (asid : ℕ) (entry : Option MetaEntry) → is_owned asid entry ≡ true → IfSome entry (λ x. x.asid ≡ asid)
+owned_entry asid None is = tt
+owned_entry asid (Some entry) is = eqb-true entry.asid asid is
+
+pub entry_owned : (asid : ℕ) (entry : Option MetaEntry) → IfSome entry (λ x. x.asid ≡ asid) → is_owned asid entry ≡ true
+entry_owned asid None is = refl
+entry_owned asid (Some entry) is = eq-eqb entry.asid asid is
+
+-- an entry in use is tested, and no other
+by_use : (asid : ℕ) (in_use : Bool) (entry : MetaEntry) → (not in_use || (entry.asid == asid)) ≡ is_owned asid (cond in_use (Some entry) None)
+by_use asid true entry = refl
+by_use asid false entry = refl
+
+-- the first word of an entry tells
+pub owned_by_first : (asid first own : ℕ) (rest bytes : List ℕ) → bytes ≡ to_le_bytes w64 first → own ≡ from_le_bytes w16 (get_or bytes 4 0 ∷ get_or bytes 5 0 ∷ [])
+    → (not (get_or bytes 0 0 == 1) || (own == asid)) ≡ is_owned asid (entry_from (page_bytes (first ∷ rest)))
+unfolding entry_from page_bytes
+owned_by_first asid first own rest bytes is is_own =
+    (λ z. not (get_or (is z) 0 0 == 1) || ((is_own ∙ ap (λ (bytes : List ℕ). from_le_bytes w16 (get_or bytes 4 0 ∷ get_or bytes 5 0 ∷ [])) is) z == asid))
+    ∙ by_use asid (first % 256 == 1) _
+
+pub owned_at : (words : List ℕ) (asid number : ℕ) (answer : Bool) → length words ≡ 512 → number < 64
+    → ((rest : List ℕ) → answer ≡ is_owned asid (entry_from (page_bytes (get_or words (8 * number) 0 ∷ rest)))) → answer ≡ is_owned asid (entry_at words number)
+unfolding entry_at
+owned_at words asid number answer long below each =
+    each (take 7 (drop (suc (8 * number)) words))
+    ∙ ap (λ (eight : List ℕ). is_owned asid (entry_from (page_bytes eight))) (sym (slot_first words number (omega arith)))

@@ -1,7 +1,9 @@
 -- The words of a page and its bytes are each made from the other.
-use Rattle.std.proofs.Common.{◌≡◌, ℕ, zero, suc, ◌+◌, ◌*◌, ◌/◌, ◌^◌, ◌<◌, List, [], ◌∷◌, ◌++◌, length, get_or, take, drop, replicate, refl, ap, ◌∙◌, arith, length-drop}
-use Rattle.std.specs.Int.{w16, w64, byte_at, bytes_low_first, to_le_bytes}
-use Rattle.std.proofs.lemmas.List.{take-append-drop, length-take, get_or-drop}
+use Rattle.std.proofs.Common.{◌≡◌, ℕ, zero, suc, ◌+◌, ◌*◌, ◌/◌, ◌^◌, ◌<◌, ◌≤◌, List, [], ◌∷◌, ◌++◌, length, get_or, set, take, drop, replicate, refl, sym, ap, ◌∙◌, arith, add-one, drop-drop, length-append, length-drop}
+use Rattle.std.specs.Int.{w16, w64, byte_at, bytes_low_first, to_le_bytes, from_le_bytes}
+use Rattle.std.proofs.lemmas.Slice.{take-put_mid}
+use borrow.Rule.Slice.PartMut.{put_mid}
+use Rattle.std.proofs.lemmas.List.{take_all, take_more, take_more_set, take-append-drop, length-take, get_or-drop}
 use Rattle.std.proofs.lemmas.Nat.{le_bytes_8, from_le_bytes-to_le_bytes_8, mod_below}
 use Rattle.snp_model.specs.Measurement.{page_bytes}
 use Rattle.snp_model.specs.Metadata.{AreBytes, first_words, words_of_bytes}
@@ -81,6 +83,13 @@ pub length-words_of_bytes : (n : ℕ) (bytes : List ℕ) → length bytes ≡ 8 
 unfolding words_of_bytes
 length-words_of_bytes n bytes long = length-first_words (length bytes / 8) bytes ∙ omega arith
 
+-- all are
+pub first_words_all : (words bytes : List ℕ) (n : ℕ) → length bytes ≡ 8 * n → length words ≡ n → take n words ≡ first_words n bytes → words ≡ words_of_bytes bytes
+unfolding words_of_bytes
+first_words_all words bytes n long count is =
+    let whole : length bytes / 8 ≡ n = omega arith in
+    sym (take_all n words (omega arith)) ∙ is ∙ sym (ap (λ (k : ℕ). first_words k bytes) whole)
+
 -- the bytes of the words of bytes are these bytes
 page_bytes-first_words : (n : ℕ) (bytes : List ℕ) → length bytes ≡ 8 * n → AreBytes bytes → page_bytes (first_words n bytes) ≡ bytes
 unfolding page_bytes first_words
@@ -98,3 +107,38 @@ unfolding words_of_bytes
 page_bytes-words_of_bytes n bytes long are =
     let count : length bytes / 8 ≡ n = omega arith in
     ap (λ (k : ℕ). page_bytes (first_words k bytes)) count ∙ page_bytes-first_words n bytes long are
+
+-- ---- loops over the words of a page
+
+page_bytes-one : (word : ℕ) → page_bytes (word ∷ []) ≡ to_le_bytes w64 word
+unfolding page_bytes
+page_bytes-one word = refl
+
+first_words_more : (i : ℕ) (bytes : List ℕ) → first_words (i + 1) bytes ≡ first_words i bytes ++ from_le_bytes w64 (take 8 (drop (8 * i) bytes)) ∷ []
+unfolding first_words
+first_words_more zero bytes = refl
+first_words_more (suc i) bytes =
+    let past : 8 + 8 * i ≡ 8 * suc i = omega arith in
+    ap (λ (n : ℕ). first_words n bytes) (add-one (suc i))
+    ∙ ap (λ (rest : List ℕ). from_le_bytes w64 (take 8 bytes) ∷ rest) (ap (λ (n : ℕ). first_words n (drop 8 bytes)) (sym (add-one i)) ∙ first_words_more i (drop 8 bytes))
+    ∙ ap (λ (rest : List ℕ). (from_le_bytes w64 (take 8 bytes) ∷ first_words i (drop 8 bytes)) ++ from_le_bytes w64 (take 8 rest) ∷ []) (drop-drop (8 * i) 8 bytes ∙ ap (λ (n : ℕ). drop n bytes) past)
+
+-- the bytes of one word more are written
+pub bytes_more : (words bytes new : List ℕ) (i k : ℕ) → k ≡ 8 → take (8 * i) bytes ≡ page_bytes (take i words) → new ≡ to_le_bytes w64 (get_or words i 0) → i < length words → 8 * i + 8 ≤ length bytes
+    → take (8 * (i + 1)) (put_mid (8 * i) k bytes new) ≡ page_bytes (take (i + 1) words)
+bytes_more words bytes new i k eight before is below room =
+    let long : length new ≡ 8 = ap length is in
+    let far : 8 * (i + 1) ≡ 8 * i + length new = omega arith in
+    take-put_mid (8 * i) k bytes new (8 * (i + 1)) far (omega arith)
+    ∙ (λ z. before z ++ is z)
+    ∙ sym (ap page_bytes (take_more words i 0 below) ∙ page_bytes-append (take i words) (get_or words i 0 ∷ []) ∙ ap (λ (rest : List ℕ). page_bytes (take i words) ++ rest) (page_bytes-one (get_or words i 0)))
+
+pub bytes_room : (bytes new : List ℕ) (i k n : ℕ) → k ≡ 8 → length new ≡ 8 → 8 * i + 8 ≤ n → length bytes ≡ n → length (put_mid (8 * i) k bytes new) ≡ n
+bytes_room bytes new i k n eight long room is =
+    simp (length-append, length-take, length-drop, eight, long, is) (omega arith)
+
+-- one word more is written
+pub words_more : (words bytes : List ℕ) (i k value : ℕ) → k ≡ 8 → take i words ≡ first_words i bytes → value ≡ from_le_bytes w64 (take k (drop (8 * i) bytes)) → i < length words
+    → take (i + 1) (set words i value) ≡ first_words (i + 1) bytes
+words_more words bytes i k value eight before is below =
+    take_more_set words i value below ∙ (λ z. before z ++ (is ∙ ap (λ (n : ℕ). from_le_bytes w64 (take n (drop (8 * i) bytes))) eight) z ∷ []) ∙ sym (first_words_more i bytes)

@@ -1,5 +1,5 @@
 -- What the commit of a command of the firmware makes of each of its pages and of its guest's context (after the SEV-SNP firmware ABI 56860, chapter 8; what stays and what is zeroed is this project's own).
-use Rattle.std.specs.Prelude.{ℕ, ◌+◌, ◌==◌, Bool, true, false, if◌then◌else◌, List, [], ◌∷◌, replicate, Option, None}
+use Rattle.std.specs.Prelude.{ℕ, ◌+◌, ◌%◌, min, ◌==◌, Bool, true, false, if◌then◌else◌, List, [], ◌∷◌, replicate, Option, None}
 use Rattle.snp_model.specs.declared.command.Command.{Command}
 use Rattle.snp_model.specs.declared.command.Command.TheVariants as commands
 use Rattle.snp_model.specs.declared.entry.Kind.TheVariants as kinds
@@ -10,6 +10,7 @@ use Rattle.snp_model.specs.declared.firmware.PageState.{PageState}
 use Rattle.snp_model.specs.declared.firmware.PageState.TheVariants as states
 use Rattle.snp_model.specs.Measurement.{digest_after}
 use Rattle.snp_model.specs.PageStates.{state_of}
+use Rattle.snp_model.specs.Verdicts.{is_large}
 use Rattle.snp_model.specs.State.{Page, Pages, Context, Contexts, zero_words}
 
 -- memory with another page
@@ -55,10 +56,14 @@ taken page = record { facts = taken_facts page.facts; words = zero_words }
 abbrev pub placed : RmpEntry → List ℕ → Page
 placed moved words = record { facts = moved; words = words }
 
--- a page in state Reclaim, with no guest page number and no permissions; a page without an ASID is of 4 KB
+-- a frame's guest page number where that of its page is 0: its place in a page of 2 MB
+abbrev pub gpn_from_zero : RmpEntry → ℕ
+gpn_from_zero facts = if is_large facts.size then facts.gpn % 512 else 0
+
+-- a page in state Reclaim, with guest page number 0 and no permissions; no run makes one of 2 MB
 unfoldable pub reclaim_facts : RmpEntry → RmpEntry
 reclaim_facts facts =
-    record facts { validated = false; immutable = false; gpn = 0; asid = 0; vmsa = false; perms = replicate 4 0; kind = kinds.Plain }
+    record facts { validated = false; immutable = false; gpn = gpn_from_zero facts; asid = 0; vmsa = false; perms = replicate 4 0; kind = kinds.Plain }
 
 -- swap_out: the source becomes Reclaim with zero words
 abbrev pub released : Page → Page
@@ -102,12 +107,16 @@ reclaimed_as state page = page
 unfoldable pub reclaimed_page : Page → Page
 reclaimed_page page = reclaimed_as (state_of page.facts) page
 
+-- a count of launched pages, one higher: it stands still at the last value of its 32 bits
+abbrev pub one_more : ℕ → ℕ
+one_more pages = min (pages + 1) 0xffff_ffff
+
 -- a context that a page of this type, with these permissions, guest page number and words, is launched into
 unfoldable pub launched_into : ℕ → Bool → List ℕ → ℕ → List ℕ → Context → Context
 launched_into page_type imi perms gpn words context =
     record context {
       digest = digest_after context.digest (record { page_type = page_type; imi = imi; perms = perms; gpn = gpn; words = words });
-      pages = context.pages + 1;
+      pages = one_more context.pages;
     }
 
 -- a context whose counter has sealed one more page
