@@ -44,17 +44,17 @@ pages_at : (memory new : List (List ℕ)) (rmp rmp' : Entries) (slot : ℕ) (ent
     → (f : ℕ) → region_pages new rmp' f ≡ at_frame slot (record { facts = entry; words = words }) (region_pages memory rmp) f
 pages_at memory new rmp rmp' slot entry words inside small is_new is_facts f = elim (cases_eq slot f) [
   | inl same ↦
-    (λ i. record {
-      facts = (ap (facts_at rmp') (sym same) ∙ (λ j. is_facts j slot) ∙ entry_here slot entry (facts_at rmp) small) i;
-      words = (ap (page_at new) (sym same) ∙ (λ j. page_at (is_new j) slot) ∙ get_or-set_same memory slot words [] inside) i;
-    })
-    ∙ frame_here slot f (record { facts = entry; words = words }) (region_pages memory rmp) same
+      (λ i. record {
+        facts = (ap (facts_at rmp') (sym same) ∙ (λ j. is_facts j slot) ∙ entry_here slot entry (facts_at rmp) small) i;
+        words = (ap (page_at new) (sym same) ∙ (λ j. page_at (is_new j) slot) ∙ get_or-set_same memory slot words [] inside) i;
+      })
+      ∙ frame_here slot f (record { facts = entry; words = words }) (region_pages memory rmp) same
   | inr apart ↦
-    (λ i. record {
-      facts = ((λ j. is_facts j f) ∙ entry_other slot f entry (facts_at rmp) small apart) i;
-      words = ((λ j. page_at (is_new j) f) ∙ get_or-set_other memory slot f words [] (λ e. apart (sym e))) i;
-    })
-    ∙ frame_other slot f (record { facts = entry; words = words }) (region_pages memory rmp) apart
+      (λ i. record {
+        facts = ((λ j. is_facts j f) ∙ entry_other slot f entry (facts_at rmp) small apart) i;
+        words = ((λ j. page_at (is_new j) f) ∙ get_or-set_other memory slot f words [] (λ e. apart (sym e))) i;
+      })
+      ∙ frame_other slot f (record { facts = entry; words = words }) (region_pages memory rmp) apart
 ]
 
 -- both are written
@@ -123,7 +123,7 @@ pub frame_within : (rmp : Entries) (slot k : ℕ) → IsTable rmp → slot < 512
 frame_within rmp slot k table below in_page = by_size (facts_at rmp slot).size refl in_page.low in_page.high
   where
     by_size : (size : PageSize) → (facts_at rmp slot).size ≡ size → page_base size slot ≤ k → k < page_base size slot + frames_in size
-      → facts_at rmp k ≡ facts_within (facts_at rmp (page_base size slot)) (k - page_base size slot)
+        → facts_at rmp k ≡ facts_within (facts_at rmp (page_base size slot)) (k - page_base size slot)
     by_size Small is low high =
         let none : k - slot ≡ 0 = omega arith in
         let here : k ≡ slot = omega arith in
