@@ -73,7 +73,13 @@ pub fn unseal_page(
 {
     let mut bytes = [0; 4096];
     write_bytes(words, &mut bytes);
-    match unseal(context.key(), &iv_of(entry.iv), &aad_of(entry), &mut bytes, &entry.tag) {
+    match unseal(
+        context.key(),
+        &iv_of(entry.iv),
+        &aad_of(entry),
+        &mut bytes,
+        &entry.tag,
+    ) {
         Ok(()) => {
             write_words(&bytes, words);
             Ok(())
