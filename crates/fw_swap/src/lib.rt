@@ -3,8 +3,12 @@
 #![tactic(auto)]
 
 mod bytes;
+mod metadata;
 mod ownership;
+mod pages;
 mod sealing;
 
+pub use metadata::entry_test;
 pub use ownership::owned;
+pub use pages::{metadata_in, metadata_out, release, restore};
 pub use sealing::{seal_metadata, seal_page, unseal_page};

@@ -1,13 +1,15 @@
 -- A page of 4 KB of a region whose entry and words are written.
-use Rattle.std.proofs.Common.{◌≡◌, ◌≢◌, ℕ, ◌+◌, ◌-◌, ◌*◌, ◌/◌, ◌<◌, ◌≤◌, ◌==◌, cond, List, [], length, get_or, set, refl, sym, ap, ◌∙◌, inl, inr, arith}
+use Rattle.std.proofs.Common.{◌≡◌, ◌≢◌, ℕ, ◌+◌, ◌-◌, ◌*◌, ◌/◌, ◌%◌, ◌<◌, ◌≤◌, ◌==◌, cond, false, List, [], length, replicate, get_or, set, refl, sym, ap, ◌∙◌, inl, inr, arith}
 use Rattle.std.proofs.lemmas.Bool.{cases_eq, cond-true, cond-false, eq-eqb, ne_eqb}
 use Rattle.std.proofs.lemmas.List.{get_or-set_same, get_or-set_other, set-get_or}
+use Rattle.snp_model.specs.declared.entry.Kind.TheVariants.{Plain}
 use Rattle.snp_model.specs.declared.entry.PageSize.{PageSize}
 use Rattle.snp_model.specs.declared.entry.PageSize.TheVariants.{Small, Large}
 use Rattle.snp_model.specs.declared.entry.RmpEntry.{RmpEntry}
 use Rattle.snp_model.specs.Entries.{Entries, IsTable, facts_at, facts_within, region_pages, with_entry}
 use Rattle.snp_model.specs.Facts.{frames_in, page_base}
-use Rattle.snp_model.specs.FirmwareCommits.{at_frame}
+use Rattle.snp_model.specs.FirmwareCommits.{at_frame, reclaim_facts}
+use Rattle.snp_model.specs.Verdicts.{is_large}
 use Rattle.snp_model.specs.Locks.{over, over_lock, page_lock}
 use Rattle.snp_model.specs.RegionWords.{page_at, page_set}
 use Rattle.snp_model.specs.State.{Page, Pages}
@@ -134,3 +136,10 @@ frame_within rmp slot k table below in_page = by_size (facts_at rmp slot).size r
         (table.one_page slot below is).follow k (omega arith)
         ∙ ap (λ (n : ℕ). facts_within (facts_at rmp n) k) (sym base)
         ∙ ap (facts_within (facts_at rmp (slot / 512 * 512))) (sym place)
+
+-- a page of 4 KB that becomes Reclaim has guest page number 0
+pub reclaimed_small : (facts : RmpEntry) → facts.size ≡ Small
+    → record facts { validated = false; immutable = false; gpn = 0; asid = 0; vmsa = false; perms = replicate 4 0; kind = Plain } ≡ reclaim_facts facts
+unfolding reclaim_facts
+reclaimed_small facts small = λ i.
+    record facts { validated = false; immutable = false; gpn = sym (cond-false _ (facts.gpn % 512) 0 (ap is_large small)) i; asid = 0; vmsa = false; perms = replicate 4 0; kind = Plain }

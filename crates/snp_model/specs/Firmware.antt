@@ -108,3 +108,20 @@ has_equal_frames (commands.MdOut guest source target metadata entry) = any_equal
 has_equal_frames (commands.MdIn guest source target metadata entry) = any_equal source target metadata
 has_equal_frames (commands.MdRootOut guest source target) = source == target
 has_equal_frames (commands.MdRootIn guest source target) = source == target
+
+-- the entry that a command names, of its metadata page
+unfoldable pub entry_of : Command → Option ℕ
+entry_of (commands.GctxCreate guest frame) = None
+entry_of (commands.Activate guest asid) = None
+entry_of (commands.LaunchStart guest) = None
+entry_of (commands.LaunchUpdate guest frame page_type imi perms) = None
+entry_of (commands.LaunchFinish guest) = None
+entry_of (commands.MdInit frame) = None
+entry_of (commands.PageMove guest source target) = None
+entry_of (commands.SwapOut guest source target metadata entry) = Some entry
+entry_of (commands.SwapIn guest source target metadata entry) = Some entry
+entry_of (commands.Reclaim frame) = None
+entry_of (commands.MdOut guest source target metadata entry) = Some entry
+entry_of (commands.MdIn guest source target metadata entry) = Some entry
+entry_of (commands.MdRootOut guest source target) = None
+entry_of (commands.MdRootIn guest source target) = None

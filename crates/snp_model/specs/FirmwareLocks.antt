@@ -1,5 +1,5 @@
 -- What refuses each lock of a command of the firmware: the first test that applies. Which test gives which status, in which order, is this project's own (the commands after the SEV-SNP firmware ABI 56860, chapter 8).
-use Rattle.std.specs.Prelude.{ℕ, ◌+◌, ◌==◌, nat_lt, nat_le, Bool, true, false, not, ◌&&◌, ◌||◌, if◌then◌else◌, List, [], ◌∷◌, length, Option, Some, None, is_some}
+use Rattle.std.specs.Prelude.{ℕ, ◌+◌, ◌==◌, nat_lt, nat_le, Bool, true, false, not, ◌&&◌, ◌||◌, if◌then◌else◌, List, [], ◌∷◌, length, Option, Some, None, is_some, Result, Ok, Err}
 use Rattle.snp_model.specs.declared.command.Command.{Command}
 use Rattle.snp_model.specs.declared.command.Command.TheVariants as commands
 use Rattle.snp_model.specs.declared.entry.RmpEntry.{RmpEntry}
@@ -16,6 +16,11 @@ use Rattle.snp_model.specs.Metadata.{entry_at, owned}
 use Rattle.snp_model.specs.PageStates.{state_of, allowed, has_owner}
 use Rattle.snp_model.specs.State.{Context}
 use Rattle.snp_model.specs.Verdicts.{is_large}
+
+-- the answer where a refusal may stand in the way
+abbrev pub firmware_answer : Option FwRefusal → Result (Unit {0}) FwRefusal
+firmware_answer None = Ok tt
+firmware_answer (Some refusal) = Err refusal
 
 -- the first test of a context lock: the guest is undeclared
 unfoldable pub guest_refusal : List GuestSpec → ℕ → Option FwRefusal
