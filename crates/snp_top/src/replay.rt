@@ -29,6 +29,7 @@ pub fn replay<S: Source>(alloc: Global, source: &mut S) -> Result<Played, Comman
     ensures answer { ReplaysTo (S.left source.old) (S.left source.new) (S.faults source.old) (S.faults source.new) result }
     ensures short { IfOk result (λ played. length played.journal.list ≤ 262_144) }
     ensures taken { TakesAtMost (most Quantity.Bytes + 1) (S.left source.old) (S.left source.new) }
+    ensures later { S.faults source.old ≤ S.faults source.new }
 {
     let text = match read_text(alloc, source) {
         Ok(text) => text,

@@ -6,4 +6,4 @@ pub report-requires : goal.report-requires
 report-requires g c = let short = c.in-Ok.ensures.short in omega arith
 
 pub returns-in-Ok-clause-explained : goal.returns-in-Ok-clause-explained
-returns-in-Ok-clause-explained g c = explains_report c.report.result (map string_bytes c.args.words.now.items) _ _ c.in-Ok.played (sym c.are_words.ensures ∙ c.if-not-are_words.false) c.in-Ok.ensures.answer c.report.ensures
+returns-in-Ok-clause-explained g c = explains_report c.report.result (map string_bytes c.args.words.now.items) _ _ c.in-Ok.played (sym c.are_words.ensures ∙ c.if-not-are_words.false) c.in-Ok.ensures.answer c.report.ensures.written
