@@ -81,6 +81,8 @@ impl<W: Write> WriterSink<W> {
     /// Hands on what the writer holds back, as a `BufWriter` does. A failure counts among the faults.
     pub fn flush(&mut self) -> Result<(), Failed>
         ensures written { Adds self.old.written self.new.written [] }
+        ensures later { self.old.faults ≤ self.new.faults }
+        ensures failed { OnErr result (Rose self.old.faults self.new.faults) }
         ensures still { OnOk result (self.new.faults ≡ self.old.faults) }
         ensures counts { OnErr result (self.new.faults ≡ one_more self.old.faults) }
     {

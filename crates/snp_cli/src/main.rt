@@ -1,17 +1,18 @@
 //! The program: `snp replay < SCENARIO`.
 #![tactic(auto)]
 
+mod session;
+#[cfg(test)]
+mod tests;
+
+use crate::session::answer;
 use outside_port::{ReaderSource, WriterSink};
-use snp_top::batch::snp_batch;
 use std::io::{BufWriter, Read, Write};
 use std::process::ExitCode;
 use std::{env, io};
 
 /// Where the runtime doesn't give the words or a buffer for the output.
 const UNSTARTED: u8 = 1;
-
-/// Where the output couldn't be written.
-const UNWRITTEN: u8 = 6;
 
 /// How many bytes of output are written at a time.
 const PIECE: usize = 65_536;
@@ -25,13 +26,7 @@ fn main(rt: HostRuntime) -> ExitCode {
     };
     let mut source = ReaderSource::new(rt.stdin());
     let mut sink = WriterSink::new(output);
-    let status = snp_batch(rt.alloc(), &words, &mut source, &mut sink);
-    let flushed = sink.flush();
-    ExitCode::from(if status == 0 && flushed.is_err() {
-        UNWRITTEN
-    } else {
-        status
-    })
+    ExitCode::from(answer(rt.alloc(), &words, &mut source, &mut sink))
 }
 
 // The words after the program's name.

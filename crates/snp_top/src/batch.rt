@@ -97,6 +97,9 @@ pub fn snp_batch<S: Source, K: Sink>(
     // Want of memory is free.
     ensures memory_line { result ≡ 7 → WritesLine (K.written sink.old) (K.written sink.new) (K.faults sink.old) (K.faults sink.new) (codes "error memory\n") }
 
+    // The counts of faults never fall.
+    ensures later { (S.faults source.old ≤ S.faults source.new) × (K.faults sink.old ≤ K.faults sink.new) }
+
     // Nothing else keeps the report from being written.
     ensures complete { (text : List ℕ) (c : Scenario) → are_words (map string_bytes words.now.items) ≡ true → S.left source.old ≡ Some text
         → Reads text c → IsDefined c (order_of c)
@@ -128,6 +131,7 @@ fn carry_out<S: Source, K: Sink>(
         (record { left = S.left source.old; read_faults = S.faults source.old; written = K.written sink.old; write_faults = K.faults sink.old })
         (record { left = S.left source.new; read_faults = S.faults source.new; written = K.written sink.new; write_faults = K.faults sink.new }) }
     ensures taken { TakesAtMost (most Quantity.Bytes + 1) (S.left source.old) (S.left source.new) }
+    ensures later { (S.faults source.old ≤ S.faults source.new) × (K.faults sink.old ≤ K.faults sink.new) }
     ensures untouched { are_words (map string_bytes words.now.items) ≡ false → source.new ≡ source.old }
 {
     if !are_words(words) {
@@ -143,7 +147,8 @@ fn carry_out<S: Source, K: Sink>(
 fn report<K: Sink>(played: &Played, sink: &mut K) -> Result<(), CommandFault>
     requires version { (1 ≤ played.now.version) × (played.now.version ≤ 2) }
     requires short { length played.now.journal.list < 2 ^ 32 }
-    ensures { ReportsTo (K.written sink.old) (K.written sink.new) (K.faults sink.old) (K.faults sink.new) (report_text played.now.version played.now.journal.list played.now.guests.items) result }
+    ensures later { K.faults sink.old ≤ K.faults sink.new }
+    ensures written { ReportsTo (K.written sink.old) (K.written sink.new) (K.faults sink.old) (K.faults sink.new) (report_text played.now.version played.now.journal.list played.now.guests.items) result }
 {
     match write_report(played.version, &played.journal, &played.guests, sink) {
         Ok(()) => Ok(()),
@@ -154,6 +159,7 @@ fn report<K: Sink>(played: &Played, sink: &mut K) -> Result<(), CommandFault>
 // Writes the error line of a fault, or a front of it where the sink fails, and gives the fault back.
 fn refuse<K: Sink>(fault: CommandFault, sink: &mut K) -> CommandFault
     ensures same { result ≡ fault }
+    ensures later { K.faults sink.old ≤ K.faults sink.new }
     ensures line { WritesLine (K.written sink.old) (K.written sink.new) (K.faults sink.old) (K.faults sink.new) (error_line fault) }
 {
     let mut line = [0; 64];

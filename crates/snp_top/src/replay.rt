@@ -31,6 +31,7 @@ pub fn replay<S: Source>(alloc: Global, source: &mut S) -> Result<Played, Comman
     ensures version { IfOk result (λ played. (1 ≤ played.version) × (played.version ≤ 2)) }
     ensures short { IfOk result (λ played. length played.journal.list ≤ 262_144) }
     ensures taken { TakesAtMost (most Quantity.Bytes + 1) (S.left source.old) (S.left source.new) }
+    ensures later { S.faults source.old ≤ S.faults source.new }
 {
     let text = match read_text(alloc, source) {
         Ok(text) => text,

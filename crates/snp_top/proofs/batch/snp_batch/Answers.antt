@@ -32,5 +32,6 @@ returns g c =
       write_failed = told_write_failed told;
       report_cut = told_cut_report told;
       memory_line = told_memory_line told;
+      later = c.carry_out-outcome.ensures.later;
       complete = told_complete told;
     }

@@ -1,0 +1,78 @@
+-- What a flush leaves of what was written before it: all, since it adds nothing to what a writer has taken.
+use Rattle.std.proofs.Common.{◌≡◌, ℕ, ◌<◌, ◌≤◌, ◌⊎◌, ◌≢◌, zero, suc, List, [], Option, Some, None, sym, ◌∙◌, subst, inl, inr, append-nil, arith}
+use Rattle.snp_model.specs.Ending.{report_of}
+use Rattle.snp_model.specs.Outside.{Adds, AddsPrefix, Rose}
+use Rattle.snp_model.specs.Reading.{order_of}
+use Rattle.snp_model.proofs.Adding.{adds_twice}
+use Rattle.snp_top.specs.Batch.{ForScenario, SaysBadTurn, SaysCutReport, SaysLimit, SaysRefusal, SaysRun, WritesLine}
+use Rattle.snp_top.specs.Replays.{IsRead}
+
+adds_kept : (old mid now : Option (List ℕ)) (bytes : List ℕ) → Adds old mid bytes → Adds mid now [] → Adds old now bytes
+adds_kept old mid now bytes adds flushed = subst (Adds old now) (append-nil bytes) (adds_twice old mid now bytes [] adds flushed)
+
+prefix_kept : (old mid now : Option (List ℕ)) (bytes : List ℕ) → AddsPrefix old mid bytes → Adds mid now [] → AddsPrefix old now bytes
+prefix_kept old mid now bytes adds flushed =
+    record { rest = adds.rest; left = record { front = adds.left.front; adds = adds_kept old mid now adds.left.front adds.left.adds flushed; parts = adds.left.parts } }
+
+pub rose_kept : (before mid after : ℕ) → Rose before mid → mid ≤ after → Rose before after
+rose_kept before mid after rose later = (omega arith, omega arith)
+
+pub rose_behind : (before mid after : ℕ) → before ≤ mid → Rose mid after → Rose before after
+rose_behind before mid after later rose = (omega arith, omega arith)
+
+line_kept : (old mid now : Option (List ℕ)) (before between after : ℕ) (line : List ℕ) → WritesLine old mid before between line → Adds mid now [] → between ≤ after → WritesLine old now before after line
+line_kept old mid now before between after line (inl adds) flushed later = inl (adds_kept old mid now line adds flushed)
+line_kept old mid now before between after line (inr cut) flushed later = inr (prefix_kept old mid now line cut.0 flushed, rose_kept before between after cut.1 later)
+
+pub report_kept : (left old mid now : Option (List ℕ)) → ForScenario left (λ c. Adds old mid (report_of c (order_of c))) → Adds mid now [] → ForScenario left (λ c. Adds old now (report_of c (order_of c)))
+report_kept None old mid now adds flushed = tt
+report_kept (Some text) old mid now adds flushed = λ c says. adds_kept old mid now (report_of c (order_of c)) (adds c says) flushed
+
+pub refusal_kept : (left taken old mid now : Option (List ℕ)) (before between after : ℕ) → SaysRefusal left taken old mid before between → Adds mid now [] → between ≤ after → SaysRefusal left taken old now before after
+refusal_kept left taken old mid now before between after refused flushed later = (refused.0, refused.1, refused.2, line_kept old mid now before between after _ refused.3 flushed later)
+
+pub limit_kept : (left taken old mid now : Option (List ℕ)) (before between after : ℕ) → SaysLimit left taken old mid before between → Adds mid now [] → between ≤ after → SaysLimit left taken old now before after
+limit_kept left taken old mid now before between after passed flushed later = (passed.0, passed.1, passed.2, line_kept old mid now before between after _ passed.3 flushed later)
+
+pub bad_turn_kept : (left taken old mid now : Option (List ℕ)) (before between after : ℕ) → SaysBadTurn left taken old mid before between → Adds mid now [] → between ≤ after → SaysBadTurn left taken old now before after
+bad_turn_kept left taken old mid now before between after bad flushed later = (bad.0, bad.1, bad.2, line_kept old mid now before between after _ bad.3 flushed later)
+
+pub cut_kept : (left taken old mid now : Option (List ℕ)) → SaysCutReport left taken old mid → Adds mid now [] → SaysCutReport left taken old now
+cut_kept None taken old mid now cut flushed = tt
+cut_kept (Some text) taken old mid now cut flushed =
+    let one = cut.1 in
+    (cut.0, (one.0, one.1, (one.2.0, prefix_kept old mid now (report_of one.0 (order_of one.0)) one.2.1 flushed)))
+
+-- a whole report is a front of itself
+whole_cut : (old now : Option (List ℕ)) (bytes : List ℕ) → Adds old now bytes → AddsPrefix old now bytes
+whole_cut old now bytes adds = record { rest = []; left = record { front = bytes; adds = adds; parts = sym (append-nil bytes) } }
+
+pub report_cut : (left taken old mid now : Option (List ℕ)) → IsRead left taken → SaysRun left → ForScenario left (λ c. Adds old mid (report_of c (order_of c))) → Adds mid now [] → SaysCutReport left taken old now
+report_cut None taken old mid now read run adds flushed = tt
+report_cut (Some text) taken old mid now read run adds flushed =
+    let report = report_of run.0 (order_of run.0) in
+    (read, (run.0, run.1, (run.2, whole_cut old now report (adds_kept old mid now report (adds run.0 run.1) flushed))))
+
+-- the status of a command whose output couldn't be handed on is 6 for 0, and else its own
+pub record IsUnflushed (status result : ℕ) : Type 0 where
+  pub done : status ≡ 0 → result ≡ 6
+  pub other : status ≢ 0 → result ≡ status
+
+pub never_done : (status result : ℕ) → IsUnflushed status result → result ≡ 0 → ⊥
+never_done zero result is meant = let six = is.done (omega arith) in omega arith
+never_done (suc n) result is meant = let same = is.other (λ e. absurd (omega (arith, e))) in omega arith
+
+pub other_status : (status result k : ℕ) → IsUnflushed status result → k ≢ 6 → result ≡ k → status ≡ k
+other_status zero result k is apart meant = let six = is.done (omega arith) in absurd (apart (omega arith))
+other_status (suc n) result k is apart meant = let same = is.other (λ e. absurd (omega (arith, e))) in omega arith
+
+pub same_status : (status result k : ℕ) → IsUnflushed status result → 0 < k → status ≡ k → result ≡ k
+same_status status result k is some meant = is.other (λ e. absurd (omega (arith, e))) ∙ meant
+
+pub cut_status : (status result : ℕ) → IsUnflushed status result → result ≡ 6 → (status ≡ 0) ⊎ (status ≡ 6)
+cut_status zero result is meant = inl (omega arith)
+cut_status (suc n) result is meant = let same = is.other (λ e. absurd (omega (arith, e))) in inr (omega arith)
+
+pub known_status : (status result : ℕ) → IsUnflushed status result → (status ≤ 8) × (status ≢ 1) → (result ≤ 8) × (result ≢ 1)
+known_status zero result is known = let six = is.done (omega arith) in (omega arith, λ e. absurd (omega (arith, e)))
+known_status (suc n) result is known = let same = is.other (λ e. absurd (omega (arith, e))) in (omega (arith, known.0), λ e. known.1 (omega (arith, e)))
