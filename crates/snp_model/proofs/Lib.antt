@@ -26,4 +26,5 @@ pub mod RunLaws
 pub mod ShapeLaws
 pub mod SoundLaws
 pub mod StandingLaws
+pub mod UpdateLaws
 pub mod UseLaws
