@@ -60,7 +60,7 @@ overlaps_same Large facts facts' same =
     let others = some_frame_same (λ place. (facts place).assigned) (λ place. (facts' place).assigned) 0 512 (λ place inside. ap (λ (entry : RmpEntry). entry.assigned) (same place (grind (arith, nat_tests)))) in
     ap (λ (b : Bool). b && some_frame (λ place. (facts place).assigned) 0 512) first ∙ ap (λ (b : Bool). not (is_large (facts' 0).size) && b) others
 
-update_range_same : (update : Update) (facts facts' : ℕ → RmpEntry) (holder holder' : ℕ → Option ℕ)
+pub update_range_same : (update : Update) (facts facts' : ℕ → RmpEntry) (holder holder' : ℕ → Option ℕ)
     → ((place : ℕ) → place < frames_in update.size → facts place ≡ facts' place) → ((place : ℕ) → place < frames_in update.size → holder place ≡ holder' place)
     → update_range_refusal update facts holder ≡ update_range_refusal update facts' holder'
 unfolding update_range_refusal

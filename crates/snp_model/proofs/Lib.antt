@@ -8,6 +8,8 @@ pub mod GuestMemoryLaws
 pub mod GuestReadsLaws
 pub mod InstructionLocality
 pub mod LocalityLaws
+pub mod LockLaws
+pub mod LockedMoves
 pub mod MemoryLaws
 pub mod MetadataLaws
 pub mod MoveLocality
@@ -26,5 +28,6 @@ pub mod RunLaws
 pub mod ShapeLaws
 pub mod SoundLaws
 pub mod StandingLaws
+pub mod TestedLaws
 pub mod UpdateLaws
 pub mod UseLaws

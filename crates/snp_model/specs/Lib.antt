@@ -27,6 +27,7 @@ pub mod Journal
 pub mod Limits
 pub mod Lines
 pub mod Live
+pub mod Locked
 pub mod Locks
 pub mod Measurement
 pub mod Metadata
