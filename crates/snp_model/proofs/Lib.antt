@@ -9,6 +9,7 @@ pub mod GuestReadsLaws
 pub mod InstructionLocality
 pub mod LocalityLaws
 pub mod LockLaws
+pub mod LockedItems
 pub mod LockedMoves
 pub mod MemoryLaws
 pub mod MetadataLaws

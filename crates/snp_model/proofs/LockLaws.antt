@@ -55,13 +55,13 @@ range_unlocked holder base (suc count) none frame inside =
     (cases_eq frame base)
 
 -- the page of 2 MB in which a frame stands is its region
-page_region : (frame g : ℕ) → covers g (page_lock Large frame) ≡ true → AreOfOneRegion frame g
+pub page_region : (frame g : ℕ) → covers g (page_lock Large frame) ≡ true → AreOfOneRegion frame g
 page_region frame g inside =
     let low : frame / 512 * 512 ≤ g = grind (arith, nat_tests) in
     let high : g < frame / 512 * 512 + 512 = grind (arith, nat_tests) in
     omega arith
 
-region_page : (frame g : ℕ) → AreOfOneRegion frame g → covers g (page_lock Large frame) ≡ true
+pub region_page : (frame g : ℕ) → AreOfOneRegion frame g → covers g (page_lock Large frame) ≡ true
 region_page frame g same =
     let low : frame / 512 * 512 ≤ g = omega arith in
     let high : g < frame / 512 * 512 + 512 = omega arith in
@@ -94,7 +94,7 @@ pub record IsFree (pages : Pages) (actors : List ActorPart) (lock : PageLock) : 
   pub free : (g : ℕ) → covers g lock ≡ true → IsUnlocked actors g
   pub whole : (f g : ℕ) → covers f lock ≡ true → (pages f).facts.size ≡ Large → AreOfOneRegion f g → covers g lock ≡ true
 
-small_not_large : (size : PageSize) → size ≡ Small → size ≡ Large → ⊥
+pub small_not_large : (size : PageSize) → size ≡ Small → size ≡ Large → ⊥
 small_not_large size a b = cc
 
 page_whole : (pages : Pages) (frame : ℕ) (size : PageSize) → (pages frame).facts.size ≡ size
@@ -112,10 +112,10 @@ page_free pages actors frame whole exclusive none = record {
 }
 
 -- the lock of a range, which is that of one frame of 4 KB, or of a region
-small_range_covered : (frame g : ℕ) → covers g (range_lock Small frame) ≡ true → g ≡ frame
+pub small_range_covered : (frame g : ℕ) → covers g (range_lock Small frame) ≡ true → g ≡ frame
 small_range_covered frame g inside = grind (arith, nat_tests)
 
-region_covered : (frame f g : ℕ) → frame % 512 ≡ 0 → covers f (range_lock Large frame) ≡ true → AreOfOneRegion f g → covers g (range_lock Large frame) ≡ true
+pub region_covered : (frame f g : ℕ) → frame % 512 ≡ 0 → covers f (range_lock Large frame) ≡ true → AreOfOneRegion f g → covers g (range_lock Large frame) ≡ true
 region_covered frame f g aligned inside same =
     let low : frame ≤ f = grind (arith, nat_tests) in
     let high : f < frame + 512 = grind (arith, nat_tests) in

@@ -58,7 +58,7 @@ pub record MoveLocks (m : State) (part : ActorPart) (role : Role) (item : Item) 
   pub whole : AreWholePages move.contents.pages
   pub goes_on : move.outcome ≡ None → GoesOn m part role item move
 
-firm_itself : (page : Page) → IsFirm page page
+pub firm_itself : (page : Page) → IsFirm page page
 firm_itself page = record { facts = refl; words = λ _ _. refl }
 
 -- an event that changes nothing

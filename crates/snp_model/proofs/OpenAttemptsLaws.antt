@@ -140,7 +140,7 @@ locks_first frames contents part cpu lookup lock None gpn private leaf none walk
 locks_first frames contents part cpu lookup lock (Some outcome) gpn private leaf none walk arrived = record { open_is = λ e. cc }
 
 -- a lock changes nothing of what the walks need
-locked_need : (frames : ℕ) (cpu : Processor) (lookup : Lookup) (made : List Deed) (frame : ℕ) → need_after frames cpu lookup (made ++ deeds.Lock frame ∷ []) ≡ need_after frames cpu lookup made
+pub locked_need : (frames : ℕ) (cpu : Processor) (lookup : Lookup) (made : List Deed) (frame : ℕ) → need_after frames cpu lookup (made ++ deeds.Lock frame ∷ []) ≡ need_after frames cpu lookup made
 unfolding guest_words nested_words_after
 locked_need frames cpu lookup made frame =
     rw (guest_words_append made (deeds.Lock frame ∷ []), nested_words_append [] made (deeds.Lock frame ∷ []), append-nil (guest_words made)) refl

@@ -46,7 +46,7 @@ unfolding range_holder
 nobody_holds base zero = refl
 nobody_holds base (suc count) = nobody_holds (base + 1) count
 
-first_fails : (a b : Bool) → (a || b) ≡ false → a ≡ false
+pub first_fails : (a b : Bool) → (a || b) ≡ false → a ≡ false
 first_fails true b none = absurd (true≢false none)
 first_fails false b none = refl
 
