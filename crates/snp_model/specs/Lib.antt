@@ -59,5 +59,6 @@ pub mod Texts
 pub mod Touches
 pub mod Uniqueness
 pub mod Validation
+pub mod Vectors
 pub mod Verdicts
 pub mod Walking
