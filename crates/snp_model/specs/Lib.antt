@@ -20,14 +20,17 @@ pub mod GuestMemory
 pub mod GuestReads
 pub mod GuestWalk
 pub mod HeldContexts
+pub mod HeldLocks
 pub mod Holders
 pub mod InstructionStep
+pub mod Invariant
 pub mod ItemLines
 pub mod Journal
 pub mod Limits
 pub mod Lines
 pub mod Live
 pub mod Locks
+pub mod MadePages
 pub mod Measurement
 pub mod Metadata
 pub mod Moves
@@ -51,6 +54,7 @@ pub mod Room
 pub mod Run
 pub mod ScenarioLines
 pub mod Sealing
+pub mod Shapes
 pub mod Skips
 pub mod Sound
 pub mod State
