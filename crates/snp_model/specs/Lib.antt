@@ -20,8 +20,10 @@ pub mod GuestMemory
 pub mod GuestReads
 pub mod GuestWalk
 pub mod HeldContexts
+pub mod HeldLocks
 pub mod Holders
 pub mod InstructionStep
+pub mod Invariant
 pub mod ItemLines
 pub mod Journal
 pub mod Limits
@@ -29,6 +31,7 @@ pub mod Lines
 pub mod Live
 pub mod Locked
 pub mod Locks
+pub mod MadePages
 pub mod Measurement
 pub mod Metadata
 pub mod Moves
@@ -52,6 +55,7 @@ pub mod Room
 pub mod Run
 pub mod ScenarioLines
 pub mod Sealing
+pub mod Shapes
 pub mod Skips
 pub mod Sound
 pub mod State
@@ -60,5 +64,6 @@ pub mod Texts
 pub mod Touches
 pub mod Uniqueness
 pub mod Validation
+pub mod Vectors
 pub mod Verdicts
 pub mod Walking

@@ -12,6 +12,7 @@ mod listed;
 mod reading;
 mod report;
 mod scenario;
+mod standards;
 mod walk;
 
 pub use access::{Place, Verdict};
@@ -25,4 +26,5 @@ pub use listed::Listed;
 pub use reading::{Quantity, Reason};
 pub use report::GuestLine;
 pub use scenario::{Actor, GuestSpec, PageSpec, Paging, Role, Scenario, Turn, WordSpec};
+pub use standards::{cipher_vectors, digest_vectors, measurement_vectors, sealing_vectors};
 pub use walk::{GuestEnd, GuestPath, Lookup, Need, NestedEnd, NestedPath};
