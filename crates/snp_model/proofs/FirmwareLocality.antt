@@ -1,25 +1,30 @@
 -- The events of a command of the firmware depend on nothing but what they touch, and change nothing else.
-use Rattle.std.proofs.Common.{◌≡◌, ℕ, Bool, true, false, cond, eqb, nat_lt, nat_le, List, [], ◌∷◌, length, slice_get, Option, Some, None, is_some, Result, Ok, Err, unwrap_or, refl, ap, ◌∙◌, subst, arith}
+use Rattle.std.proofs.Common.{◌≡◌, ℕ, Bool, true, false, cond, eqb, nat_lt, nat_le, List, [], ◌∷◌, length, slice_get, Option, Some, None, is_some, Result, Ok, Err, unwrap_or, refl, sym, ap, ◌∙◌, ◌||◌, subst, arith}
 use Rattle.std.proofs.Math.Bool.{or-true}
 use Rattle.std.proofs.lemmas.Bool.{cond_both, eqb-true}
 use Rattle.std.proofs.lemmas.Bool.Decides.{nat_tests}
+use Rattle.std.proofs.lemmas.List.Folds.{list_any-append}
 use Rattle.std.specs.List.{list_any}
 use Rattle.std.specs.Option.{option_map, option_or}
 use Rattle.snp_model.specs.declared.command.Command.{Command}
 use Rattle.snp_model.specs.declared.command.Command.TheVariants as commands
+use Rattle.snp_model.specs.declared.entry.PageSize.{PageSize}
+use Rattle.snp_model.specs.declared.entry.PageSize.TheVariants.{Small, Large}
+use Rattle.snp_model.specs.declared.event.Deed.{Deed}
 use Rattle.snp_model.specs.declared.event.FwRefusal.{FwRefusal}
 use Rattle.snp_model.specs.declared.scenario.GuestSpec.{GuestSpec}
 use Rattle.snp_model.specs.Firmware.{CommandPage, guest_of, pages_of}
 use Rattle.snp_model.specs.FirmwareCommits.{at_frame, at_guest, context_page, launched_page, metadata_page, taken, placed, with_words, reclaimed_page, context_after, root_after}
 use Rattle.snp_model.specs.FirmwareLocks.{guest_refusal, frame_refusal, context_refusal}
 use Rattle.snp_model.specs.FirmwareStep.{Phase, TakeContext, TakePage, Computing, Committing, pages_phase, context_phase, refused, context_taken, take_context, command_asid, lock_refusal, take_page, computed_move, nothing_made, first_lock, pages_moved, pages_after, context_committed, contexts_after, page_shown, small_shown, commit_deed, commit_move, phase_move, firmware_move}
-use Rattle.snp_model.specs.Locks.{over_lock, page_lock}
+use Rattle.snp_model.specs.Locks.{in_range, over_lock, page_lock}
 use Rattle.snp_model.specs.Moves.{lock_move}
+use Rattle.snp_model.specs.OpenAttempts.{AreLocksOf, IsCommand}
 use Rattle.snp_model.specs.Sealing.{What, Slot, OfEntry, OfRoot, Sealing, SealOut, SealIn, sealing_of, compute_of, slot_entry, given_up, brought_back, no_entry, entry_set, with_slot_entry, pages_out, pages_in}
 use Rattle.snp_model.specs.State.{Page, Pages, PageLock, Context, Contexts, Contents, Computed, Standing, ActorPart, View}
-use Rattle.snp_model.specs.Touches.{Touched, region_of, nothing_touched, context_touched, with_locks, pages_regions, page_touches, command_touches, phase_touches, firmware_touches, touches_frame, AgreeOn, SeeAlike}
+use Rattle.snp_model.specs.Touches.{Touched, region_of, nothing_touched, context_touched, locks_regions, lock_regions, with_locks, pages_regions, page_touches, command_touches, phase_touches, firmware_touches, touches_frame, AgreeOn, SeeAlike}
 use Rattle.snp_model.proofs.MoveLocality.{MovesAlike, MovesAlone, quiet_alike, quiet_alone, other_frame, lock_alike, lock_alone}
-use Rattle.snp_model.proofs.RangeLaws.{over_same, over_beside, also_touched, beside_covered}
+use Rattle.snp_model.proofs.RangeLaws.{over_same, over_beside, lock_region, also_touched, beside_covered}
 
 -- each of these pages is touched
 unfoldable AreTouched : Touched → List CommandPage → Type 0
@@ -405,3 +410,32 @@ phase_alone frames guests view part command Committing = commit_alone view part 
 pub firmware_alone : (frames : ℕ) (guests : List GuestSpec) (view : View) (part : ActorPart) (command : Command)
     → MovesAlone (firmware_touches frames guests part.standing command) view.contents (firmware_move frames guests view part command)
 firmware_alone frames guests view part command = phase_alone frames guests view part command _
+
+-- the lock of a page covers its frame
+lock_covers : (size : PageSize) (frame : ℕ) → in_range (page_lock size frame).base (page_lock size frame).count frame ≡ true
+lock_covers Small frame = grind (arith, nat_tests)
+lock_covers Large frame = grind (arith, nat_tests)
+
+-- where all pages of a command are locked, each region of theirs is one of the locks
+pages_locked : (frames : ℕ) (pages : List CommandPage) (locks : List PageLock) (f : ℕ) → AreLocksOf frames pages locks → length locks ≡ length pages
+    → list_any (λ region. eqb region (region_of f)) (pages_regions pages) ≡ true → list_any (λ region. eqb region (region_of f)) (locks_regions locks) ≡ true
+unfolding AreLocksOf pages_regions locks_regions
+pages_locked frames [] locks f are all is = cc
+pages_locked frames (page ∷ pages) [] f are all is = absurd (omega arith)
+pages_locked frames (page ∷ pages) (lock ∷ locks) f are all is =
+    let test = λ (region : ℕ). eqb region (region_of f) in
+    let covers : in_range lock.base lock.count page.frame ≡ true = subst (λ (l : PageLock). in_range l.base l.count page.frame ≡ true) (sym are.0.covers) (lock_covers are.0.size page.frame) in
+    list_any-append test (lock_regions lock) (locks_regions locks)
+    ∙ elim (eqb (region_of page.frame) (region_of f)) as (λ (b : Bool). (b ≡ true → list_any test (lock_regions lock) ≡ true) → (b || list_any test (pages_regions pages)) ≡ true → (list_any test (lock_regions lock) || list_any test (locks_regions locks)) ≡ true)
+    [ true ↦ λ among rest. rw (among refl) refl | false ↦ λ among rest. rw (pages_locked frames pages locks f are.1 (omega arith) rest) (or-true (list_any test (lock_regions lock))) ]
+    (λ same. subst (λ (r : ℕ). list_any (λ region. eqb region r) (lock_regions lock) ≡ true) (eqb-true (region_of page.frame) (region_of f) same) (lock_region lock page.frame covers)) is
+
+-- so a compute and a commit touch nothing of memory but what is locked
+pub locked_touched : (frames : ℕ) (command : Command) (standing : Standing) (made : List Deed) (f : ℕ) → IsCommand frames command standing made → length standing.locks ≡ length (pages_of command)
+    → touches_frame (command_touches standing command) f ≡ touches_frame (with_locks standing.locks nothing_touched) f
+unfolding command_touches
+locked_touched frames command standing made f is all =
+    let test = λ (region : ℕ). eqb region (region_of f) in
+    list_any-append test (pages_regions (pages_of command)) (locks_regions standing.locks)
+    ∙ elim (list_any test (pages_regions (pages_of command))) as (λ (b : Bool). (b ≡ true → list_any test (locks_regions standing.locks) ≡ true) → (b || list_any test (locks_regions standing.locks)) ≡ list_any test (locks_regions standing.locks))
+    [ true ↦ λ among. sym (among refl) | false ↦ λ among. refl ] (pages_locked frames (pages_of command) standing.locks f is.pages all)
