@@ -166,7 +166,7 @@ sound_proved frames Firmware (items.Pvalidate address size validate) is = tt
 sound_proved frames Firmware (items.Rmpadjust address size target mask vmsa) is = tt
 sound_proved frames Firmware (items.Rmpupdate update) is = tt
 sound_proved frames Firmware (items.Psmash frame) is = tt
-sound_proved frames Firmware (items.Firmware command) is = tt
+sound_proved frames Firmware (items.Firmware command) is = is
 sound_proved frames Firmware (items.Skip count test) is = tt
 
 skip_proved : (role : Role) (count : ℕ) (test : SkipTest) → IsProved role (items.Skip count test)

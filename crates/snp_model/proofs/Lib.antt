@@ -1,8 +1,10 @@
 pub mod Adding
 pub mod AttemptLaws
 pub mod Chains
+pub mod CommandLaws
 pub mod CoreLaws
 pub mod FindingLaws
+pub mod FirmwareLocality
 pub mod EntriesLaws
 pub mod GuestMemoryLaws
 pub mod GuestReadsLaws

@@ -24,8 +24,9 @@ use Rattle.snp_model.specs.State.{Page, Pages, Contents, ActorPart, View, with_w
 use Rattle.snp_model.specs.Moves.{Move}
 use Rattle.snp_model.specs.Step.{pages_after, access_move, data_move, data_place, host_access, skip_move, item_move, line_at, part_after, step_of}
 use Rattle.snp_model.specs.Touches.{Touched, nothing_touched, frame_touched, walk_touches, item_touches, touches, touches_frame, AgreeOn, AgreeBeside, SeeAlike, StepsAlike}
+use Rattle.snp_model.proofs.FirmwareLocality.{firmware_alike, firmware_alone}
 use Rattle.snp_model.proofs.InstructionLocality.{update_alike, smash_alike, validate_alike, adjust_alike, update_alone, smash_alone, validate_alone, adjust_alone}
-use Rattle.snp_model.proofs.MoveLocality.{MovesAlike, includes_itself, own_frame, other_frame, quiet_alike, misplaced_alike, unbuilt_alike, ArrivesAlike, walked_alike, MovesAlone, quiet_alone, ArrivesAlone, walked_alone}
+use Rattle.snp_model.proofs.MoveLocality.{MovesAlike, includes_itself, own_frame, other_frame, quiet_alike, misplaced_alike, ArrivesAlike, walked_alike, MovesAlone, quiet_alone, ArrivesAlone, walked_alone}
 
 -- a page after a written word depends on that page before it alone
 word_alike : (frame index value : ℕ) (one other : Pages) (f : ℕ) → one f ≡ other f → with_word frame index value one f ≡ with_word frame index value other f
@@ -126,7 +127,7 @@ item_alike frames guests part Firmware (items.Pvalidate address size validate) o
 item_alike frames guests part Firmware (items.Rmpadjust address size target mask vmsa) one other same = misplaced_alike nothing_touched one.contents other.contents part same.contents
 item_alike frames guests part Firmware (items.Rmpupdate update) one other same = misplaced_alike nothing_touched one.contents other.contents part same.contents
 item_alike frames guests part Firmware (items.Psmash frame) one other same = misplaced_alike nothing_touched one.contents other.contents part same.contents
-item_alike frames guests part Firmware (items.Firmware command) one other same = unbuilt_alike nothing_touched one.contents other.contents part same.contents
+item_alike frames guests part Firmware (items.Firmware command) one other same = firmware_alike frames guests one other part command same
 item_alike frames guests part Firmware (items.Skip count test) one other same = skip_alike nothing_touched one.contents other.contents part count test same.contents
 
 -- like moves leave like parts
@@ -205,7 +206,7 @@ item_alone frames guests part Firmware (items.Pvalidate address size validate) v
 item_alone frames guests part Firmware (items.Rmpadjust address size target mask vmsa) view = quiet_alone nothing_touched view.contents part _ _
 item_alone frames guests part Firmware (items.Rmpupdate update) view = quiet_alone nothing_touched view.contents part _ _
 item_alone frames guests part Firmware (items.Psmash frame) view = quiet_alone nothing_touched view.contents part _ _
-item_alone frames guests part Firmware (items.Firmware command) view = quiet_alone nothing_touched view.contents part _ _
+item_alone frames guests part Firmware (items.Firmware command) view = firmware_alone frames guests view part command
 item_alone frames guests part Firmware (items.Skip count test) view = quiet_alone nothing_touched view.contents part _ _
 
 -- and it changes nothing else

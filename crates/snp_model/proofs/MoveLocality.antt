@@ -20,7 +20,7 @@ use Rattle.snp_model.specs.Walking.{Processor, need_after, fault_of}
 use Rattle.snp_model.specs.Opening.{asid_of}
 use Rattle.snp_model.specs.Verdicts.{private_verdict}
 use Rattle.snp_model.specs.State.{Page, Pages, PageLock, Context, Contents, ActorPart, word_of}
-use Rattle.snp_model.specs.Moves.{Move, Arrival, lock_move, memory_move, quiet_move, unbuilt_move, misplaced_move, faulted_move, table_word, is_running, begin_move, walk_move, table_move, need_move, walked_move, table_place}
+use Rattle.snp_model.specs.Moves.{Move, Arrival, lock_move, memory_move, quiet_move, misplaced_move, faulted_move, table_word, is_running, begin_move, walk_move, table_move, need_move, walked_move, table_place}
 use Rattle.snp_model.specs.Touches.{Touched, frame_touched, need_touches, walk_touches, touches_frame, AgreeOn, AgreeBeside}
 
 -- two moves are the same, and leave what is touched the same
@@ -42,9 +42,6 @@ other_frame touched frame f is_touched apart same = true≢false (sym is_touched
 pub quiet_alike : (touched : Touched) (one other : Contents) (part : ActorPart) (deed : Deed) (outcome : Option Outcome)
     → AgreeOn touched one other → MovesAlike touched (quiet_move one part deed outcome) (quiet_move other part deed outcome)
 quiet_alike touched one other part deed outcome same = record { deed = refl; outcome = refl; contents = same; standing = refl }
-
-pub unbuilt_alike : (touched : Touched) (one other : Contents) (part : ActorPart) → AgreeOn touched one other → MovesAlike touched (unbuilt_move one part) (unbuilt_move other part)
-unbuilt_alike touched one other part same = quiet_alike touched one other part _ _ same
 
 pub misplaced_alike : (touched : Touched) (one other : Contents) (part : ActorPart) → AgreeOn touched one other → MovesAlike touched (misplaced_move one part) (misplaced_move other part)
 misplaced_alike touched one other part same = quiet_alike touched one other part _ _ same

@@ -28,10 +28,11 @@ use Rattle.snp_model.specs.Opening.{opening, opening_part}
 use Rattle.snp_model.specs.Run.{state_from, state_after, IsDefinedFrom, IsDefined}
 use Rattle.snp_model.specs.InstructionStep.{page_lookup, validate_begin, validate_move, adjust_begin, adjust_move, update_move, smash_move}
 use Rattle.snp_model.specs.declared.item.Update.{Update}
-use Rattle.snp_model.specs.State.{PageLock, ActorPart, Context, Contents, State, View, part_of, idle_part, IsUnfinished, word_of}
+use Rattle.snp_model.specs.State.{PageLock, Standing, ActorPart, Context, Contents, State, View, part_of, idle_part, IsUnfinished, word_of, nothing_taken}
 use Rattle.snp_model.specs.Moves.{Move, lock_move, Arrival, is_running, begin_move, table_word, table_move, need_move, walked_move}
 use Rattle.snp_model.specs.Step.{step_of, after, part_after, item_move, line_at, access_move, data_move, host_access, event_of}
 use Rattle.snp_model.specs.Walking.{Processor, lookup_of, guest_words, nested_words_after, need_after}
+use Rattle.snp_model.proofs.CommandLaws.{command_stays, command_begins, command_reads}
 use Rattle.snp_model.proofs.ShapeLaws.{guest_words_append, nested_words_append}
 use Rattle.snp_model.proofs.RunLaws.{unfinished_at}
 
@@ -216,32 +217,42 @@ unfolding smash_move
 smash_stays frames view part frame [] none is = lock_stays view.contents part _ _ none is
 smash_stays frames view part frame (lock ∷ others) some is = record { open_is = λ e. cc }
 
+-- so where it is told by all that the attempt has
+record StaysAs (is_ok : Standing → List Deed → Type 0) (part : ActorPart) (move : Move) : Type 0 where
+  open_is : move.outcome ≡ None → is_ok move.standing (part.deeds ++ move.deed ∷ [])
+
+by_locks : (is_ok : List PageLock → List Deed → Type 0) (part : ActorPart) (move : Move) → Stays is_ok part move → StaysAs (λ standing. is_ok standing.locks) part move
+by_locks is_ok part move stays = record { open_is = stays.open_is }
+
 -- so of each item
-move_stays : (frames : ℕ) (guests : List GuestSpec) (view : View) (part : ActorPart) (role : Role) (item : Item) → IsAttempt frames role item part.standing.locks part.deeds
-    → Stays (IsAttempt frames role item) part (item_move frames guests view part role item)
+move_stays : (frames : ℕ) (guests : List GuestSpec) (view : View) (part : ActorPart) (role : Role) (item : Item) → IsAttempt frames role item part.standing part.deeds
+    → StaysAs (IsAttempt frames role item) part (item_move frames guests view part role item)
 unfolding item_move host_access IsAttempt
 move_stays frames guests view part (Cpu guest vmpl npt paging) (items.Access address op) is =
     let cpu : Processor = record { guest = guest; vmpl = vmpl; npt = npt; paging = paging } in
     let lookup = lookup_of address op in
-    walked_stays (λ locks. IsWalk frames cpu lookup) frames guests view.contents part cpu lookup None _ part.deeds (λ made walk. walk)
-    (λ gpn private frame size need. access_stays (λ locks. IsWalk frames cpu lookup) view.contents part _ _ op frame _) refl is
+    by_locks (λ locks. IsWalk frames cpu lookup) part _
+    (walked_stays (λ locks. IsWalk frames cpu lookup) frames guests view.contents part cpu lookup None _ part.deeds (λ made walk. walk)
+    (λ gpn private frame size need. access_stays (λ locks. IsWalk frames cpu lookup) view.contents part _ _ op frame _) refl is)
 move_stays frames guests view part (Cpu guest vmpl npt paging) (items.Pvalidate address size validate) is =
     let cpu : Processor = record { guest = guest; vmpl = vmpl; npt = npt; paging = paging } in
-    locking_stays frames guests view.contents part cpu (page_lookup address) (validate_begin cpu address size) (validate_move guests view part cpu size validate) part.standing.locks
-    (validate_locks guests view part cpu size validate) (validate_commits guests view part cpu size validate) refl is
+    by_locks (IsLockingWalk frames cpu (page_lookup address)) part _
+    (locking_stays frames guests view.contents part cpu (page_lookup address) (validate_begin cpu address size) (validate_move guests view part cpu size validate) part.standing.locks
+    (validate_locks guests view part cpu size validate) (validate_commits guests view part cpu size validate) refl is)
 move_stays frames guests view part (Cpu guest vmpl npt paging) (items.Rmpadjust address size target mask vmsa) is =
     let cpu : Processor = record { guest = guest; vmpl = vmpl; npt = npt; paging = paging } in
-    locking_stays frames guests view.contents part cpu (page_lookup address) (adjust_begin cpu address size target mask) (adjust_move guests view part cpu size target mask vmsa) part.standing.locks
-    (adjust_locks guests view part cpu size target mask vmsa) (adjust_commits guests view part cpu size target mask vmsa) refl is
+    by_locks (IsLockingWalk frames cpu (page_lookup address)) part _
+    (locking_stays frames guests view.contents part cpu (page_lookup address) (adjust_begin cpu address size target mask) (adjust_move guests view part cpu size target mask vmsa) part.standing.locks
+    (adjust_locks guests view part cpu size target mask vmsa) (adjust_commits guests view part cpu size target mask vmsa) refl is)
 move_stays frames guests view part (Cpu guest vmpl npt paging) (items.Rmpupdate update) is = record { open_is = λ e. cc }
 move_stays frames guests view part (Cpu guest vmpl npt paging) (items.Psmash frame) is = record { open_is = λ e. cc }
 move_stays frames guests view part (Cpu guest vmpl npt paging) (items.Firmware command) is = record { open_is = λ e. cc }
 move_stays frames guests view part (Cpu guest vmpl npt paging) (items.Skip count test) is = record { open_is = λ e. cc }
-move_stays frames guests view part Host (items.Access address op) is = access_stays (IsAttempt frames Host (items.Access address op)) view.contents part _ _ op _ _
+move_stays frames guests view part Host (items.Access address op) is = by_locks (λ locks made. made ≡ []) part _ (access_stays (λ locks made. made ≡ []) view.contents part _ _ op _ _)
 move_stays frames guests view part Host (items.Pvalidate address size validate) is = record { open_is = λ e. cc }
 move_stays frames guests view part Host (items.Rmpadjust address size target mask vmsa) is = record { open_is = λ e. cc }
-move_stays frames guests view part Host (items.Rmpupdate update) is = update_stays frames view part update part.standing.locks refl is
-move_stays frames guests view part Host (items.Psmash frame) is = smash_stays frames view part frame part.standing.locks refl is
+move_stays frames guests view part Host (items.Rmpupdate update) is = by_locks IsLocking part _ (update_stays frames view part update part.standing.locks refl is)
+move_stays frames guests view part Host (items.Psmash frame) is = by_locks IsLocking part _ (smash_stays frames view part frame part.standing.locks refl is)
 move_stays frames guests view part Host (items.Firmware command) is = record { open_is = λ e. cc }
 move_stays frames guests view part Host (items.Skip count test) is = record { open_is = λ e. cc }
 move_stays frames guests view part Firmware (items.Access address op) is = record { open_is = λ e. cc }
@@ -249,11 +260,11 @@ move_stays frames guests view part Firmware (items.Pvalidate address size valida
 move_stays frames guests view part Firmware (items.Rmpadjust address size target mask vmsa) is = record { open_is = λ e. cc }
 move_stays frames guests view part Firmware (items.Rmpupdate update) is = record { open_is = λ e. cc }
 move_stays frames guests view part Firmware (items.Psmash frame) is = record { open_is = λ e. cc }
-move_stays frames guests view part Firmware (items.Firmware command) is = record { open_is = λ e. cc }
+move_stays frames guests view part Firmware (items.Firmware command) is = record { open_is = command_stays frames guests view part command is }
 move_stays frames guests view part Firmware (items.Skip count test) is = record { open_is = λ e. cc }
 
 -- an attempt that has not begun
-no_deeds : (frames : ℕ) (role : Role) (item : Item) → IsAttempt frames role item [] []
+no_deeds : (frames : ℕ) (role : Role) (item : Item) → IsAttempt frames role item nothing_taken []
 unfolding IsAttempt IsWalk
 no_deeds frames (Cpu guest vmpl npt paging) (items.Access address op) = tt
 no_deeds frames (Cpu guest vmpl npt paging) (items.Pvalidate address size validate) = tt
@@ -274,11 +285,11 @@ no_deeds frames Firmware (items.Pvalidate address size validate) = refl
 no_deeds frames Firmware (items.Rmpadjust address size target mask vmsa) = refl
 no_deeds frames Firmware (items.Rmpupdate update) = refl
 no_deeds frames Firmware (items.Psmash frame) = refl
-no_deeds frames Firmware (items.Firmware command) = refl
+no_deeds frames Firmware (items.Firmware command) = command_begins frames command
 no_deeds frames Firmware (items.Skip count test) = refl
 
 part_stays : (frames : ℕ) (part : ActorPart) (move : Move) (outcome : Option Outcome)
-    → (outcome ≡ None → IsAttempt frames part.role (line_at part.script part.item).item move.standing.locks (part.deeds ++ move.deed ∷ [])) → IsWalking frames (part_after part move outcome)
+    → (outcome ≡ None → IsAttempt frames part.role (line_at part.script part.item).item move.standing (part.deeds ++ move.deed ∷ [])) → IsWalking frames (part_after part move outcome)
 unfolding part_after
 part_stays frames part move None open_is = open_is refl
 part_stays frames part move (Some outcome) open_is = no_deeds frames part.role _
@@ -418,7 +429,7 @@ move_reads frames guests view part Firmware (items.Pvalidate address size valida
 move_reads frames guests view part Firmware (items.Rmpadjust address size target mask vmsa) = record { is = tt }
 move_reads frames guests view part Firmware (items.Rmpupdate update) = record { is = tt }
 move_reads frames guests view part Firmware (items.Psmash frame) = record { is = tt }
-move_reads frames guests view part Firmware (items.Firmware command) = record { is = tt }
+move_reads frames guests view part Firmware (items.Firmware command) = record { is = command_reads frames guests view part command }
 move_reads frames guests view part Firmware (items.Skip count test) = record { is = tt }
 
 pub event_reads : (m : State) (actor : ℕ) → ReadsMemory m.contents (event_of m actor).deed

@@ -94,7 +94,7 @@ part_lowers frames p move None bounded has walking =
     let ls = drop (suc p.item) p.script in
     let grows = line_grows l ls p.attempt (length p.deeds) (bounded.within has) bounded.short in
     record {
-      bounded = record { walking = walking; short = attempt_short frames p.role l.item move.standing.locks (p.deeds ++ move.deed ∷ []) walking; within = bounded.within };
+      bounded = record { walking = walking; short = attempt_short frames p.role l.item move.standing (p.deeds ++ move.deed ∷ []) walking; within = bounded.within };
       less = rw (drop_here p.script p.item has, length_push p.deeds move.deed) grows;
     }
 part_lowers frames p move (Some outcome) bounded has walking =

@@ -24,8 +24,9 @@ use Rattle.snp_model.specs.GuestWalk.{is_private_leaf, gpn_below, guest_fault, a
 use Rattle.snp_model.specs.NestedWalk.{after_word, walk_from, walk_fault, frame_below, has_bit, first_read, nested_end}
 use Rattle.snp_model.specs.OpenAttempts.{CallsFor, AreCalledFor, IsWalk, IsLockingWalk, IsLocking, IsAttempt}
 use Rattle.snp_model.specs.InstructionStep.{page_lookup}
-use Rattle.snp_model.specs.State.{PageLock}
+use Rattle.snp_model.specs.State.{PageLock, Standing}
 use Rattle.snp_model.specs.Walking.{Processor, lookup_of, counting, guest_words, nested_words_after, nested_words, guest_path, guest_stands, table_path, data_path, table_need, data_need, walk_need}
+use Rattle.snp_model.proofs.CommandLaws.{command_few}
 
 -- a walk that reads on has read fewer words than it has levels
 record IsNotRead (frame index : ℕ) (stands : NestedEnd) : Type 0 where
@@ -275,27 +276,27 @@ lock_few [] made is = none_few made is
 lock_few (lock ∷ others) made is = let count = ap length is.0 in omega arith
 
 -- so an open attempt has fewer deeds than an array of 32 holds
-pub attempt_short : (frames : ℕ) (role : Role) (item : Item) (locks : List PageLock) (made : List Deed) → IsAttempt frames role item locks made → length made < 32
+pub attempt_short : (frames : ℕ) (role : Role) (item : Item) (standing : Standing) (made : List Deed) → IsAttempt frames role item standing made → length made < 32
 unfolding IsAttempt
-attempt_short frames (Cpu guest vmpl npt paging) (items.Access address op) locks made is =
+attempt_short frames (Cpu guest vmpl npt paging) (items.Access address op) standing made is =
     let few = walk_few frames (record { guest = guest; vmpl = vmpl; npt = npt; paging = paging }) (lookup_of address op) made is in omega arith
-attempt_short frames (Cpu guest vmpl npt paging) (items.Pvalidate address size validate) locks made is = locking_few frames (record { guest = guest; vmpl = vmpl; npt = npt; paging = paging }) (page_lookup address) locks made is
-attempt_short frames (Cpu guest vmpl npt paging) (items.Rmpadjust address size target mask vmsa) locks made is = locking_few frames (record { guest = guest; vmpl = vmpl; npt = npt; paging = paging }) (page_lookup address) locks made is
-attempt_short frames (Cpu guest vmpl npt paging) (items.Rmpupdate update) locks made is = none_few made is
-attempt_short frames (Cpu guest vmpl npt paging) (items.Psmash frame) locks made is = none_few made is
-attempt_short frames (Cpu guest vmpl npt paging) (items.Firmware command) locks made is = none_few made is
-attempt_short frames (Cpu guest vmpl npt paging) (items.Skip count test) locks made is = none_few made is
-attempt_short frames Host (items.Access address op) locks made is = none_few made is
-attempt_short frames Host (items.Pvalidate address size validate) locks made is = none_few made is
-attempt_short frames Host (items.Rmpadjust address size target mask vmsa) locks made is = none_few made is
-attempt_short frames Host (items.Rmpupdate update) locks made is = lock_few locks made is
-attempt_short frames Host (items.Psmash frame) locks made is = lock_few locks made is
-attempt_short frames Host (items.Firmware command) locks made is = none_few made is
-attempt_short frames Host (items.Skip count test) locks made is = none_few made is
-attempt_short frames Firmware (items.Access address op) locks made is = none_few made is
-attempt_short frames Firmware (items.Pvalidate address size validate) locks made is = none_few made is
-attempt_short frames Firmware (items.Rmpadjust address size target mask vmsa) locks made is = none_few made is
-attempt_short frames Firmware (items.Rmpupdate update) locks made is = none_few made is
-attempt_short frames Firmware (items.Psmash frame) locks made is = none_few made is
-attempt_short frames Firmware (items.Firmware command) locks made is = none_few made is
-attempt_short frames Firmware (items.Skip count test) locks made is = none_few made is
+attempt_short frames (Cpu guest vmpl npt paging) (items.Pvalidate address size validate) standing made is = locking_few frames (record { guest = guest; vmpl = vmpl; npt = npt; paging = paging }) (page_lookup address) standing.locks made is
+attempt_short frames (Cpu guest vmpl npt paging) (items.Rmpadjust address size target mask vmsa) standing made is = locking_few frames (record { guest = guest; vmpl = vmpl; npt = npt; paging = paging }) (page_lookup address) standing.locks made is
+attempt_short frames (Cpu guest vmpl npt paging) (items.Rmpupdate update) standing made is = none_few made is
+attempt_short frames (Cpu guest vmpl npt paging) (items.Psmash frame) standing made is = none_few made is
+attempt_short frames (Cpu guest vmpl npt paging) (items.Firmware command) standing made is = none_few made is
+attempt_short frames (Cpu guest vmpl npt paging) (items.Skip count test) standing made is = none_few made is
+attempt_short frames Host (items.Access address op) standing made is = none_few made is
+attempt_short frames Host (items.Pvalidate address size validate) standing made is = none_few made is
+attempt_short frames Host (items.Rmpadjust address size target mask vmsa) standing made is = none_few made is
+attempt_short frames Host (items.Rmpupdate update) standing made is = lock_few standing.locks made is
+attempt_short frames Host (items.Psmash frame) standing made is = lock_few standing.locks made is
+attempt_short frames Host (items.Firmware command) standing made is = none_few made is
+attempt_short frames Host (items.Skip count test) standing made is = none_few made is
+attempt_short frames Firmware (items.Access address op) standing made is = none_few made is
+attempt_short frames Firmware (items.Pvalidate address size validate) standing made is = none_few made is
+attempt_short frames Firmware (items.Rmpadjust address size target mask vmsa) standing made is = none_few made is
+attempt_short frames Firmware (items.Rmpupdate update) standing made is = none_few made is
+attempt_short frames Firmware (items.Psmash frame) standing made is = none_few made is
+attempt_short frames Firmware (items.Firmware command) standing made is = let few = command_few frames command standing made is in omega arith
+attempt_short frames Firmware (items.Skip count test) standing made is = none_few made is

@@ -90,7 +90,7 @@ move_standing frames guests view part Firmware (items.Pvalidate address size val
 move_standing frames guests view part Firmware (items.Rmpadjust address size target mask vmsa) is = record { same = refl }
 move_standing frames guests view part Firmware (items.Rmpupdate update) is = record { same = refl }
 move_standing frames guests view part Firmware (items.Psmash frame) is = record { same = refl }
-move_standing frames guests view part Firmware (items.Firmware command) is = record { same = refl }
+move_standing frames guests view part Firmware (items.Firmware command) is = absurd is
 move_standing frames guests view part Firmware (items.Skip count test) is = record { same = refl }
 
 part_unlocked : (part : ActorPart) (move : Move) (outcome : Option Outcome) → move.standing ≡ nothing_taken → (part_after part move outcome).standing ≡ nothing_taken

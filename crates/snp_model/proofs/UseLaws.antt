@@ -31,7 +31,7 @@ use Rattle.snp_model.specs.Operations.{outcome_of}
 use Rattle.snp_model.specs.Skips.{skip_outcome}
 use Rattle.snp_model.specs.Verdicts.{private_verdict, private_refusal, shared_verdict, host_verdict, is_large, lacks}
 use Rattle.snp_model.specs.State.{Pages, Context, Contents, ActorPart, View, with_word, word_of}
-use Rattle.snp_model.specs.Moves.{Move, Arrival, is_running, quiet_move, unbuilt_move, misplaced_move, faulted_move, begin_move, table_move, need_move, walked_move, table_place}
+use Rattle.snp_model.specs.Moves.{Move, Arrival, is_running, quiet_move, misplaced_move, faulted_move, begin_move, table_move, need_move, walked_move, table_place}
 use Rattle.snp_model.specs.Step.{item_move, access_move, pages_after, data_move, host_access, data_place}
 use Rattle.snp_model.specs.GuestMemory.{Memory, Use, Untouched, use_of_word, use_of, firmware_use, use_for, IsLegalUse, used}
 use Rattle.snp_model.specs.Live.{Archive, Vault, vault_of}
@@ -61,12 +61,13 @@ RoleOwns guest asid guests (Cpu owner vmpl npt paging) = Owns guest asid guests 
 RoleOwns guest asid guests Host = Unit {0}
 RoleOwns guest asid guests Firmware = Unit {0}
 
--- an item of which this is proved: no scenario has an instruction of the RMP yet
+-- an item of which this is proved: no scenario has an instruction of the RMP or a command of the firmware yet
 abbrev pub IsProved : Role → Item → Type 0
 IsProved (Cpu owner vmpl npt paging) (items.Pvalidate address size validate) = ⊥
 IsProved (Cpu owner vmpl npt paging) (items.Rmpadjust address size target mask vmsa) = ⊥
 IsProved Host (items.Rmpupdate update) = ⊥
 IsProved Host (items.Psmash frame) = ⊥
+IsProved Firmware (items.Firmware command) = ⊥
 IsProved role item = Unit {0}
 
 -- before an event
@@ -107,11 +108,6 @@ quiet_fine : (guest asid : ℕ) (archive : Archive) (memory : Memory) (old : Con
 quiet_fine guest asid archive memory old part role item deed outcome before e = record {
   fine = subst (λ (does : Use). Fine guest asid archive memory old old does) (sym (untouched_for guest old role deed item outcome e)) (nothing_fine guest asid archive memory old before);
 }
-
-unbuilt_fine : (guest asid : ℕ) (archive : Archive) (memory : Memory) (old : Contents) (part : ActorPart) (role : Role) (item : Item)
-    → Before guest asid archive memory old → MoveFine guest asid archive memory old role item (unbuilt_move old part)
-unfolding use_of firmware_use
-unbuilt_fine guest asid archive memory old part role item before = quiet_fine guest asid archive memory old part role item deeds.Control (Some outcomes.Next) before (record { processors = refl; firmware = λ _ _. refl })
 
 misplaced_fine : (guest asid : ℕ) (archive : Archive) (memory : Memory) (old : Contents) (part : ActorPart) (role : Role) (item : Item)
     → Before guest asid archive memory old → MoveFine guest asid archive memory old role item (misplaced_move old part)
@@ -432,6 +428,6 @@ item_fine guest asid archive guests memory frames view part Firmware (items.Pval
 item_fine guest asid archive guests memory frames view part Firmware (items.Rmpadjust address size target mask vmsa) before owns known = misplaced_fine guest asid archive memory view.contents part Firmware (items.Rmpadjust address size target mask vmsa) before
 item_fine guest asid archive guests memory frames view part Firmware (items.Rmpupdate update) before owns known = misplaced_fine guest asid archive memory view.contents part Firmware (items.Rmpupdate update) before
 item_fine guest asid archive guests memory frames view part Firmware (items.Psmash frame) before owns known = misplaced_fine guest asid archive memory view.contents part Firmware (items.Psmash frame) before
-item_fine guest asid archive guests memory frames view part Firmware (items.Firmware command) before owns known = unbuilt_fine guest asid archive memory view.contents part Firmware (items.Firmware command) before
+item_fine guest asid archive guests memory frames view part Firmware (items.Firmware command) before owns known = absurd known
 item_fine guest asid archive guests memory frames view part Firmware (items.Skip count test) before owns known =
     quiet_fine guest asid archive memory view.contents part Firmware (items.Skip count test) deeds.Control (Some (skip_outcome count test part.last)) before (record { processors = refl; firmware = λ _ _. refl })

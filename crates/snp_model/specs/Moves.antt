@@ -37,10 +37,6 @@ memory_move contents part deed outcome pages =
 abbrev pub quiet_move : Contents → ActorPart → Deed → Option Outcome → Move
 quiet_move contents part deed outcome = record { deed = deed; outcome = outcome; contents = contents; standing = part.standing }
 
--- an item that no scenario has yet
-abbrev pub unbuilt_move : Contents → ActorPart → Move
-unbuilt_move contents part = quiet_move contents part deeds.Control (Some outcomes.Next)
-
 -- an item that is of another role's, which no scenario has
 abbrev pub misplaced_move : Contents → ActorPart → Move
 misplaced_move contents part = quiet_move contents part deeds.Control (Some outcomes.Next)

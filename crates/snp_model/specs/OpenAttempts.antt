@@ -1,5 +1,6 @@
--- What an open attempt has done: the reads of a guest processor's item are those that its walks call for, one after the other, and an instruction may then have taken its lock (APM volume 2, 5.3 and 15.25.6). The division into events is this project's own.
-use Rattle.std.specs.Prelude.{◌≡◌, ℕ, Bool, true, List, [], ◌∷◌, ◌++◌, All, Some}
+-- What an open attempt has done: the reads of a guest processor's item are those that its walks call for, one after the other, and an instruction may then have taken its lock (APM volume 2, 5.3 and 15.25.6); a command of the firmware has taken its locks in their order (after the SEV-SNP firmware ABI 56860, chapter 8). The division into events is this project's own.
+use Rattle.std.specs.Prelude.{◌≡◌, ◌⊎◌, ℕ, ◌<◌, Bool, true, List, [], ◌∷◌, ◌++◌, All, length, map, Option, Some, None, IsSome}
+use Rattle.snp_model.specs.declared.command.Command.{Command}
 use Rattle.snp_model.specs.declared.entry.PageSize.{PageSize}
 use Rattle.snp_model.specs.declared.event.Deed.{Deed}
 use Rattle.snp_model.specs.declared.event.Deed.TheVariants as deeds
@@ -9,9 +10,12 @@ use Rattle.snp_model.specs.declared.scenario.Role.{Role}
 use Rattle.snp_model.specs.declared.scenario.Role.TheVariants.{Cpu, Host, Firmware}
 use Rattle.snp_model.specs.declared.walk.Lookup.{Lookup}
 use Rattle.snp_model.specs.declared.walk.Need.TheVariants as needs
+use Rattle.snp_model.specs.Firmware.{CommandPage, guest_of, pages_of}
 use Rattle.snp_model.specs.GuestWalk.{levels_of, is_canonical}
 use Rattle.snp_model.specs.InstructionStep.{page_lookup}
-use Rattle.snp_model.specs.State.{PageLock, ActorPart, Contents, State, word_of}
+use Rattle.snp_model.specs.Locks.{page_lock}
+use Rattle.snp_model.specs.Sealing.{sealing_of}
+use Rattle.snp_model.specs.State.{PageLock, Computed, Standing, ActorPart, Contents, State, word_of, nothing_taken}
 use Rattle.snp_model.specs.Moves.{table_word}
 use Rattle.snp_model.specs.Step.{line_at}
 use Rattle.snp_model.specs.Walking.{Processor, lookup_of, need_after}
@@ -55,30 +59,71 @@ abbrev pub IsLocking : List PageLock → List Deed → Type 0
 IsLocking [] made = made ≡ []
 IsLocking (lock ∷ others) made = (made ≡ deeds.Lock lock.frame ∷ []) × (others ≡ [])
 
--- an attempt of an item that has these locks and has made these deeds, by the role of its actor; one that neither walks nor locks ends with its first event
-unfoldable pub IsAttempt : ℕ → Role → Item → List PageLock → List Deed → Type 0
-IsAttempt frames (Cpu guest vmpl npt paging) (items.Access address op) locks made =
+-- the lock of a page of a command: its frame is in memory, and the lock covers the page in which it stands
+pub record IsLockOf (frames : ℕ) (page : CommandPage) (lock : PageLock) : Type 0 where
+  pub size : PageSize
+  pub covers : lock ≡ page_lock size page.frame
+  pub inside : page.frame < frames
+
+-- the locks of the first of a command's pages, in their order
+unfoldable pub AreLocksOf : ℕ → List CommandPage → List PageLock → Type 0
+AreLocksOf frames pages [] = Unit {0}
+AreLocksOf frames [] (lock ∷ locks) = ⊥
+AreLocksOf frames (page ∷ pages) (lock ∷ locks) = IsLockOf frames page lock × AreLocksOf frames pages locks
+
+-- the deeds that have locked a context, and pages, and that have made a page
+abbrev pub context_deeds : Option ℕ → List Deed
+context_deeds None = []
+context_deeds (Some guest) = deeds.LockContext guest ∷ []
+
+abbrev pub lock_deeds : List PageLock → List Deed
+lock_deeds locks = map (λ lock. deeds.Lock lock.frame) locks
+
+abbrev pub compute_deeds : Option Computed → List Deed
+compute_deeds None = []
+compute_deeds (Some made) = deeds.Compute ∷ []
+
+-- an attempt of a command of the firmware that has taken and made this, by these deeds
+pub record IsCommand (frames : ℕ) (command : Command) (standing : Standing) (made : List Deed) : Type 0 where
+  -- it locks the context of its guest before all else
+  pub context : (standing ≡ nothing_taken) ⊎ (standing.context_lock ≡ guest_of command)
+  -- then its pages
+  pub pages : AreLocksOf frames (pages_of command) standing.locks
+  -- and then it may make a page, if it seals or opens one
+  pub computed : IsSome standing.computed → IsSome (sealing_of command) × (length standing.locks ≡ length (pages_of command))
+  -- and that is all it has done
+  pub deeds : made ≡ context_deeds standing.context_lock ++ lock_deeds standing.locks ++ compute_deeds standing.computed
+
+-- an attempt of an item that has taken and made this, by these deeds and by the role of its actor; one that neither walks nor locks ends with its first event
+unfoldable pub IsAttempt : ℕ → Role → Item → Standing → List Deed → Type 0
+IsAttempt frames (Cpu guest vmpl npt paging) (items.Access address op) standing made =
     IsWalk frames (record { guest = guest; vmpl = vmpl; npt = npt; paging = paging }) (lookup_of address op) made
-IsAttempt frames (Cpu guest vmpl npt paging) (items.Pvalidate address size validate) locks made =
-    IsLockingWalk frames (record { guest = guest; vmpl = vmpl; npt = npt; paging = paging }) (page_lookup address) locks made
-IsAttempt frames (Cpu guest vmpl npt paging) (items.Rmpadjust address size target mask vmsa) locks made =
-    IsLockingWalk frames (record { guest = guest; vmpl = vmpl; npt = npt; paging = paging }) (page_lookup address) locks made
-IsAttempt frames (Cpu guest vmpl npt paging) (items.Rmpupdate update) locks made = made ≡ []
-IsAttempt frames (Cpu guest vmpl npt paging) (items.Psmash frame) locks made = made ≡ []
-IsAttempt frames (Cpu guest vmpl npt paging) (items.Firmware command) locks made = made ≡ []
-IsAttempt frames (Cpu guest vmpl npt paging) (items.Skip count test) locks made = made ≡ []
-IsAttempt frames Host (items.Access address op) locks made = made ≡ []
-IsAttempt frames Host (items.Pvalidate address size validate) locks made = made ≡ []
-IsAttempt frames Host (items.Rmpadjust address size target mask vmsa) locks made = made ≡ []
-IsAttempt frames Host (items.Rmpupdate update) locks made = IsLocking locks made
-IsAttempt frames Host (items.Psmash frame) locks made = IsLocking locks made
-IsAttempt frames Host (items.Firmware command) locks made = made ≡ []
-IsAttempt frames Host (items.Skip count test) locks made = made ≡ []
-IsAttempt frames Firmware item locks made = made ≡ []
+IsAttempt frames (Cpu guest vmpl npt paging) (items.Pvalidate address size validate) standing made =
+    IsLockingWalk frames (record { guest = guest; vmpl = vmpl; npt = npt; paging = paging }) (page_lookup address) standing.locks made
+IsAttempt frames (Cpu guest vmpl npt paging) (items.Rmpadjust address size target mask vmsa) standing made =
+    IsLockingWalk frames (record { guest = guest; vmpl = vmpl; npt = npt; paging = paging }) (page_lookup address) standing.locks made
+IsAttempt frames (Cpu guest vmpl npt paging) (items.Rmpupdate update) standing made = made ≡ []
+IsAttempt frames (Cpu guest vmpl npt paging) (items.Psmash frame) standing made = made ≡ []
+IsAttempt frames (Cpu guest vmpl npt paging) (items.Firmware command) standing made = made ≡ []
+IsAttempt frames (Cpu guest vmpl npt paging) (items.Skip count test) standing made = made ≡ []
+IsAttempt frames Host (items.Access address op) standing made = made ≡ []
+IsAttempt frames Host (items.Pvalidate address size validate) standing made = made ≡ []
+IsAttempt frames Host (items.Rmpadjust address size target mask vmsa) standing made = made ≡ []
+IsAttempt frames Host (items.Rmpupdate update) standing made = IsLocking standing.locks made
+IsAttempt frames Host (items.Psmash frame) standing made = IsLocking standing.locks made
+IsAttempt frames Host (items.Firmware command) standing made = made ≡ []
+IsAttempt frames Host (items.Skip count test) standing made = made ≡ []
+IsAttempt frames Firmware (items.Access address op) standing made = made ≡ []
+IsAttempt frames Firmware (items.Pvalidate address size validate) standing made = made ≡ []
+IsAttempt frames Firmware (items.Rmpadjust address size target mask vmsa) standing made = made ≡ []
+IsAttempt frames Firmware (items.Rmpupdate update) standing made = made ≡ []
+IsAttempt frames Firmware (items.Psmash frame) standing made = made ≡ []
+IsAttempt frames Firmware (items.Firmware command) standing made = IsCommand frames command standing made
+IsAttempt frames Firmware (items.Skip count test) standing made = made ≡ []
 
 -- the open attempt of an actor
 abbrev pub IsWalking : ℕ → ActorPart → Type 0
-IsWalking frames part = IsAttempt frames part.role (line_at part.script part.item).item part.standing.locks part.deeds
+IsWalking frames part = IsAttempt frames part.role (line_at part.script part.item).item part.standing part.deeds
 
 -- so of each actor
 abbrev pub AreWalking : State → Type 0

@@ -21,11 +21,12 @@ use Rattle.snp_model.specs.declared.scenario.Role.{Role}
 use Rattle.snp_model.specs.declared.scenario.Role.TheVariants.{Cpu, Host, Firmware}
 use Rattle.snp_model.specs.declared.entry.PageSize.{PageSize}
 use Rattle.snp_model.specs.Accesses.{guest_verdict}
+use Rattle.snp_model.specs.FirmwareStep.{firmware_move}
 use Rattle.snp_model.specs.Opening.{asid_of}
 use Rattle.snp_model.specs.Operations.{writes, outcome_of, word_after}
 use Rattle.snp_model.specs.Outcomes.{class_of, is_in_use}
 use Rattle.snp_model.specs.InstructionStep.{update_move, smash_move, cpu_validate, cpu_adjust}
-use Rattle.snp_model.specs.Moves.{Move, Arrival, memory_move, quiet_move, unbuilt_move, misplaced_move, walked_move}
+use Rattle.snp_model.specs.Moves.{Move, Arrival, memory_move, quiet_move, misplaced_move, walked_move}
 use Rattle.snp_model.specs.Skips.{skip_outcome}
 use Rattle.snp_model.specs.Verdicts.{host_verdict}
 use Rattle.snp_model.specs.State.{Pages, Contents, nothing_taken, ActorPart, State, View, part_of, IsUnfinished, with_word, word_of}
@@ -94,7 +95,7 @@ item_move frames guests view part Firmware (items.Pvalidate address size validat
 item_move frames guests view part Firmware (items.Rmpadjust address size target mask vmsa) = misplaced_move view.contents part
 item_move frames guests view part Firmware (items.Rmpupdate update) = misplaced_move view.contents part
 item_move frames guests view part Firmware (items.Psmash frame) = misplaced_move view.contents part
-item_move frames guests view part Firmware (items.Firmware command) = unbuilt_move view.contents part
+item_move frames guests view part Firmware (items.Firmware command) = firmware_move frames guests view part command
 item_move frames guests view part Firmware (items.Skip count test) = skip_move view.contents part count test
 
 -- whether an item is attempted again after an outcome: something was in use, and retries are left

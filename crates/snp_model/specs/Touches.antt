@@ -11,6 +11,7 @@ use Rattle.snp_model.specs.declared.scenario.Role.TheVariants.{Cpu, Host, Firmwa
 use Rattle.snp_model.specs.declared.walk.Lookup.{Lookup}
 use Rattle.snp_model.specs.declared.walk.Need.{Need}
 use Rattle.snp_model.specs.declared.walk.Need.TheVariants as needs
+use Rattle.snp_model.specs.Firmware.{CommandPage, guest_of, pages_of}
 use Rattle.snp_model.specs.FirmwareLocks.{guest_refusal}
 use Rattle.snp_model.specs.FirmwareStep.{Phase, TakeContext, TakePage, Computing, Committing, phase_of}
 use Rattle.snp_model.specs.InstructionStep.{page_lookup}
@@ -70,24 +71,33 @@ unfoldable pub instruction_touches : Bool → ℕ → List PageLock → Touched
 instruction_touches refused frame [] = if refused then nothing_touched else frame_touched frame
 instruction_touches refused frame (lock ∷ others) = with_locks (lock ∷ others) (frame_touched frame)
 
--- all that an attempt has locked, whose locks a refusal would release
-abbrev pub taken_touched : Standing → Touched
-taken_touched standing = with_locks standing.locks (record { regions = []; context = standing.context_lock })
+-- the regions of several pages of a command
+unfoldable pub pages_regions : List CommandPage → List ℕ
+pages_regions [] = []
+pages_regions (page ∷ pages) = region_of page.frame ∷ pages_regions pages
 
--- what the next event of a command touches, by what its attempt needs: a frame outside memory and an undeclared guest aren't touched
-unfoldable pub phase_touches : ℕ → List GuestSpec → Standing → Phase → Touched
-phase_touches frames guests standing (TakeContext guest) = if is_some (guest_refusal guests guest) then nothing_touched else context_touched guest
-phase_touches frames guests standing (TakePage page) =
+-- a page that is to be locked, with the locks that a refusal would release; a frame outside memory isn't touched
+unfoldable pub page_touches : ℕ → Standing → CommandPage → Touched
+page_touches frames standing page =
     with_locks standing.locks (record {
       regions = if nat_lt page.frame frames then region_of page.frame ∷ [] else [];
       context = standing.context_lock;
     })
-phase_touches frames guests standing (Computing sealing) = taken_touched standing
-phase_touches frames guests standing Committing = taken_touched standing
+
+-- a compute or a commit touches all that the attempt has locked: the pages of the command, and the context of its guest
+unfoldable pub command_touches : Standing → Command → Touched
+command_touches standing command = with_locks standing.locks (record { regions = pages_regions (pages_of command); context = guest_of command })
+
+-- what the next event of a command touches, by what its attempt needs; the context of an undeclared guest isn't touched
+unfoldable pub phase_touches : ℕ → List GuestSpec → Standing → Command → Phase → Touched
+phase_touches frames guests standing command (TakeContext guest) = if is_some (guest_refusal guests guest) then nothing_touched else context_touched guest
+phase_touches frames guests standing command (TakePage page) = page_touches frames standing page
+phase_touches frames guests standing command (Computing sealing) = command_touches standing command
+phase_touches frames guests standing command Committing = command_touches standing command
 
 -- what the next event of a command touches
 abbrev pub firmware_touches : ℕ → List GuestSpec → Standing → Command → Touched
-firmware_touches frames guests standing command = phase_touches frames guests standing (phase_of command standing)
+firmware_touches frames guests standing command = phase_touches frames guests standing command (phase_of command standing)
 
 -- the next event of an item, by the role of its actor
 unfoldable pub item_touches : ℕ → List GuestSpec → ActorPart → Role → Item → Touched
@@ -113,7 +123,7 @@ item_touches frames guests part Firmware (items.Pvalidate address size validate)
 item_touches frames guests part Firmware (items.Rmpadjust address size target mask vmsa) = nothing_touched
 item_touches frames guests part Firmware (items.Rmpupdate update) = nothing_touched
 item_touches frames guests part Firmware (items.Psmash frame) = nothing_touched
-item_touches frames guests part Firmware (items.Firmware command) = nothing_touched
+item_touches frames guests part Firmware (items.Firmware command) = firmware_touches frames guests part.standing command
 item_touches frames guests part Firmware (items.Skip count test) = nothing_touched
 
 -- the next event of an actor
