@@ -13,6 +13,7 @@ pub mod LocalityLaws
 pub mod LockLaws
 pub mod LockedItems
 pub mod LockedMoves
+pub mod LockedWalks
 pub mod MemoryLaws
 pub mod MetadataLaws
 pub mod MoveLocality

@@ -10,7 +10,24 @@ use Rattle.snp_model.specs.declared.entry.PageSize.TheVariants.{Small, Large}
 use Rattle.snp_model.specs.Facts.{frames_in, page_base}
 use Rattle.snp_model.specs.Locks.{in_range, covers, locks_frame, locks_context, page_lock, range_lock, holder_from, range_holder}
 use Rattle.snp_model.specs.State.{Pages, PageLock, ActorPart, idle_part}
-use Rattle.snp_model.specs.Locked.{actor_at, AreOfOneRegion, AreWholePages, AreExclusive}
+
+-- the actor at a place of the list
+abbrev pub actor_at : List ActorPart → ℕ → ActorPart
+actor_at actors place = get_or actors place idle_part
+
+-- two frames of one region
+abbrev pub AreOfOneRegion : ℕ → ℕ → Type 0
+AreOfOneRegion f g = f / 512 ≡ g / 512
+
+-- where a frame is in a page of 2 MB, so is every frame of its region
+pub record AreWholePages (pages : Pages) : Type 0 where
+  pub large : (f g : ℕ) → (pages f).facts.size ≡ Large → AreOfOneRegion f g → (pages g).facts.size ≡ Large
+
+-- no frame and no context has two holders of its lock, by their places, and a page of 2 MB is locked as a whole
+pub record HaveOneHolder (pages : Pages) (actors : List ActorPart) : Type 0 where
+  pub pages_by_one : (j k frame : ℕ) → locks_frame frame (actor_at actors j) ≡ true → locks_frame frame (actor_at actors k) ≡ true → j ≡ k
+  pub contexts_by_one : (j k guest : ℕ) → locks_context guest (actor_at actors j) ≡ true → locks_context guest (actor_at actors k) ≡ true → j ≡ k
+  pub whole : (k f g : ℕ) → locks_frame f (actor_at actors k) ≡ true → (pages f).facts.size ≡ Large → AreOfOneRegion f g → locks_frame g (actor_at actors k) ≡ true
 
 not_true : (b : Bool) → (b ≡ true → ⊥) → b ≡ false
 not_true true none = absurd (none refl)
@@ -76,7 +93,7 @@ small_covered : (frame g : ℕ) → covers g (page_lock Small frame) ≡ true �
 small_covered frame g inside = grind (arith, nat_tests)
 
 -- where a frame isn't locked, no frame of its page is
-page_unlocked_by : (pages : Pages) (actors : List ActorPart) (frame g k : ℕ) (size : PageSize) → AreWholePages pages → AreExclusive pages actors → (pages frame).facts.size ≡ size
+page_unlocked_by : (pages : Pages) (actors : List ActorPart) (frame g k : ℕ) (size : PageSize) → AreWholePages pages → HaveOneHolder pages actors → (pages frame).facts.size ≡ size
     → locks_frame frame (actor_at actors k) ≡ false → covers g (page_lock size frame) ≡ true → locks_frame g (actor_at actors k) ≡ false
 page_unlocked_by pages actors frame g k Small whole exclusive size_is free inside = subst (λ (f : ℕ). locks_frame f (actor_at actors k) ≡ false) (sym (small_covered frame g inside)) free
 page_unlocked_by pages actors frame g k Large whole exclusive size_is free inside =
@@ -84,7 +101,7 @@ page_unlocked_by pages actors frame g k Large whole exclusive size_is free insid
     not_true (locks_frame g (actor_at actors k)) (λ locked.
         true≢false (sym (exclusive.whole k g frame locked (whole.large frame g size_is region) (sym region)) ∙ free))
 
-pub page_unlocked : (pages : Pages) (actors : List ActorPart) (frame g : ℕ) → AreWholePages pages → AreExclusive pages actors
+pub page_unlocked : (pages : Pages) (actors : List ActorPart) (frame g : ℕ) → AreWholePages pages → HaveOneHolder pages actors
     → holder_from 1 actors frame ≡ None → covers g (page_lock (pages frame).facts.size frame) ≡ true → IsUnlocked actors g
 page_unlocked pages actors frame g whole exclusive none inside k =
     page_unlocked_by pages actors frame g k (pages frame).facts.size whole exclusive refl (none_locked 1 actors frame none k) inside
@@ -104,7 +121,7 @@ page_whole pages frame Small size_is f g inside large same =
 page_whole pages frame Large size_is f g inside large same = region_page frame g (page_region frame f inside ∙ same)
 
 -- the lock of a frame's page, where nobody has locked the frame
-pub page_free : (pages : Pages) (actors : List ActorPart) (frame : ℕ) → AreWholePages pages → AreExclusive pages actors
+pub page_free : (pages : Pages) (actors : List ActorPart) (frame : ℕ) → AreWholePages pages → HaveOneHolder pages actors
     → holder_from 1 actors frame ≡ None → IsFree pages actors (page_lock (pages frame).facts.size frame)
 page_free pages actors frame whole exclusive none = record {
   free = λ g inside. page_unlocked pages actors frame g whole exclusive none inside;
@@ -212,7 +229,7 @@ context_idle : (g : ℕ) → locks_context g idle_part ≡ false
 unfolding idle_part
 context_idle g = refl
 
-whole_after : (pages new : Pages) (actors : List ActorPart) (a : ℕ) (part : ActorPart) → AreExclusive pages actors → Grows pages new actors a part
+whole_after : (pages new : Pages) (actors : List ActorPart) (a : ℕ) (part : ActorPart) → HaveOneHolder pages actors → Grows pages new actors a part
     → (k f g : ℕ) → locks_frame f (actor_at (set actors a part) k) ≡ true → (new f).facts.size ≡ Large → AreOfOneRegion f g → locks_frame g (actor_at (set actors a part) k) ≡ true
 whole_after pages new actors a part exclusive grows k f g locked large same =
     let by = locked_after (locks_frame f) actors a part k (idle_unlocked f) locked in
@@ -228,7 +245,7 @@ whole_after pages new actors a part exclusive grows k f g locked large same =
     (exclusive.whole k f g before (sym (grows.sizes f beside) ∙ large) same))
     (cases_eq k a)
 
-pub exclusive_after : (pages new : Pages) (actors : List ActorPart) (a : ℕ) (part : ActorPart) → AreExclusive pages actors → Grows pages new actors a part → AreExclusive new (set actors a part)
+pub exclusive_after : (pages new : Pages) (actors : List ActorPart) (a : ℕ) (part : ActorPart) → HaveOneHolder pages actors → Grows pages new actors a part → HaveOneHolder new (set actors a part)
 exclusive_after pages new actors a part exclusive grows = record {
   pages_by_one = λ j k frame. one_after (locks_frame frame) actors a part j k (idle_unlocked frame) (λ x y. exclusive.pages_by_one x y frame) (grows.frames frame);
   contexts_by_one = λ j k guest. one_after (locks_context guest) actors a part j k (context_idle guest) (λ x y. exclusive.contexts_by_one x y guest) (grows.contexts guest);

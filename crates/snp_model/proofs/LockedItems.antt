@@ -25,29 +25,38 @@ use Rattle.snp_model.specs.declared.scenario.Role.TheVariants.{Cpu, Host, Firmwa
 use Rattle.snp_model.specs.Facts.{free_entry, frames_in}
 use Rattle.snp_model.specs.InstructionStep.{refused_outcome, facts_of, instruction_lock, update_move, smash_move}
 use Rattle.snp_model.specs.Locks.{in_range, over, over_lock, covers, locks_frame, page_lock, range_lock, view_of}
-use Rattle.snp_model.specs.Locked.{AreOfOneRegion, AreWholePages, AreExclusive, IsFirm, Passes, AtMostOne, IsTestedUpdate, IsTestedSmash, AreTested}
+use Rattle.snp_model.specs.HeldLocks.{IsUpdateLock, IsSmashLock, IsOneLock, AreInstructionLocks, AreItemLocks}
 use Rattle.snp_model.specs.Moves.{Move, memory_move, lock_move}
 use Rattle.snp_model.specs.RmpUpdate.{is_bad_update, overlaps, update_lock, update_refusal, makes_immutable, immutable_kind, assigned_facts, updated_facts, updated_page, pages_updated, is_bad_smash, smash_refusal, smashed_page, pages_smashed}
 use Rattle.snp_model.specs.State.{Page, Pages, PageLock, Contents, ActorPart, State}
 use Rattle.snp_model.specs.Validation.{validated_facts, validated_page, pages_validated, adjusted_page, pages_adjusted}
 use Rattle.snp_model.specs.Verdicts.{is_large}
-use Rattle.snp_model.proofs.LockLaws.{IsFree, page_free, range_free, small_range_covered, region_covered, page_region, region_page, small_not_large}
-use Rattle.snp_model.proofs.LockedMoves.{Stands, MoveLocks, lock_locks, memory_locks, firm_itself, same_whole}
+use Rattle.snp_model.proofs.LockLaws.{AreOfOneRegion, AreWholePages, HaveOneHolder, IsFree, page_free, range_free, small_range_covered, region_covered, page_region, region_page, small_not_large}
+use Rattle.snp_model.proofs.LockedMoves.{IsFirm, Stands, MoveLocks, lock_locks, memory_locks, firm_itself, same_whole}
 use Rattle.snp_model.proofs.RangeLaws.{over_beside}
 use Rattle.snp_model.proofs.TestedLaws.{UpdatePasses, update_passes, update_stays, SmashPasses, smash_passes, smash_stays, first_fails}
 
 -- a change over a lock's range leaves the other frames
-over_firm : (lock : PageLock) (change : ℕ → Page → Page) (pages : Pages) (f : ℕ) → covers f lock ≡ false → IsFirm (over lock.base lock.count change pages f) (pages f)
+pub over_firm : (lock : PageLock) (change : ℕ → Page → Page) (pages : Pages) (f : ℕ) → covers f lock ≡ false → IsFirm (over lock.base lock.count change pages f) (pages f)
 over_firm lock change pages f beside = subst (λ (page : Page). IsFirm page (pages f)) (over_beside lock.base lock.count change pages f beside) (firm_itself (pages f))
 
 -- what an actor with this lock hasn't locked is beside it
-beside_lock : (part : ActorPart) (lock : PageLock) (others : List PageLock) (f : ℕ) → part.standing.locks ≡ lock ∷ others → locks_frame f part ≡ false → covers f lock ≡ false
+pub beside_lock : (part : ActorPart) (lock : PageLock) (others : List PageLock) (f : ℕ) → part.standing.locks ≡ lock ∷ others → locks_frame f part ≡ false → covers f lock ≡ false
 beside_lock part lock others f is free = first_fails (covers f lock) (list_any (covers f) others) (sym (ap (list_any (covers f)) is) ∙ free)
 
 -- no refusal of an instruction is no outcome
-no_outcome : (refusal : Option Refusal) → option_map refused_outcome refusal ≡ None → refusal ≡ None
+pub no_outcome : (refusal : Option Refusal) → option_map refused_outcome refusal ≡ None → refusal ≡ None
 no_outcome (Some refusal) none = absurd cc
 no_outcome None none = refl
+
+-- the one lock of an instruction
+pub first_lock : (Holds : PageLock → Type 0) (part : ActorPart) (lock : PageLock) → part.standing.locks ≡ [] → AreInstructionLocks Holds part.standing → Holds lock
+    → AreInstructionLocks Holds (record part.standing { locks = part.standing.locks ++ lock ∷ [] })
+first_lock Holds part lock none before holds = record {
+  lock = subst (λ (ls : List PageLock). IsOneLock Holds (ls ++ lock ∷ [])) (sym none) (holds, refl);
+  context = before.context;
+  computed = before.computed;
+}
 
 -- RMPUPDATE
 
@@ -158,7 +167,7 @@ updated_firm update lock pages f beside = over_firm lock (updated_page update (p
 -- RMPUPDATE's lock, and its commit
 pub update_locks : (m : State) (part : ActorPart) (update : Update) (locks : List PageLock) → part.standing.locks ≡ locks → Stands m part Host (items.Rmpupdate update)
     → MoveLocks m part Host (items.Rmpupdate update) (update_move m.frames (view_of m) part update locks)
-unfolding update_move AreTested
+unfolding update_move AreItemLocks
 update_locks m part update [] is stands =
     let facts = λ (place : ℕ). facts_of m.contents (update.frame + place) in
     let holder = λ (place : ℕ). (view_of m).holder (update.frame + place) in
@@ -167,15 +176,15 @@ update_locks m part update [] is stands =
     lock_locks m part Host (items.Rmpupdate update) (update_lock update) (option_map refused_outcome refusal) stands
     (λ none. let passes = passed none in
         range_free m.contents.pages m.actors update.size update.frame (first_small m.contents.pages update passes.fits) (bad_aligned m.frames update passes.fine) passes.unheld)
-    (λ none. subst (λ (ls : List PageLock). AtMostOne (IsTestedUpdate m.frames m.contents update) (ls ++ update_lock update ∷ [])) (sym is)
-        (record { lock_is = refl; refused_by_none = update_stays m.frames update facts holder (passed none) }, refl))
+    (λ none. first_lock (IsUpdateLock m.frames m.contents update) part (update_lock update) is stands.tested
+        (record { covers = refl; passes = update_stays m.frames update facts holder (passed none) }))
 update_locks m part update (lock ∷ others) is stands =
-    let tested = subst (λ (ls : List PageLock). AtMostOne (IsTestedUpdate m.frames m.contents update) ls) is stands.tested in
+    let tested = subst (IsOneLock (IsUpdateLock m.frames m.contents update)) is stands.tested.lock in
     let facts = λ (place : ℕ). facts_of m.contents (update.frame + place) in
-    let passes = update_passes m.frames update facts (λ place. None) tested.0.refused_by_none in
+    let passes = update_passes m.frames update facts (λ place. None) tested.0.passes in
     memory_locks m part Host (items.Rmpupdate update) _ _ (pages_updated update lock m.contents.pages)
     (λ f free. updated_firm update lock m.contents.pages f (beside_lock part lock others f is free))
-    (subst (λ (l : PageLock). AreWholePages (pages_updated update l m.contents.pages)) (sym tested.0.lock_is)
+    (subst (λ (l : PageLock). AreWholePages (pages_updated update l m.contents.pages)) (sym tested.0.covers)
     (updated_whole update update.size m.contents.pages refl (first_small m.contents.pages update passes.fits) (bad_aligned m.frames update passes.fine) stands.whole))
 
 -- PSMASH's commit changes nothing beside its lock, and makes a whole page of 2 MB one of 4 KB pages
@@ -209,7 +218,7 @@ is_large_size Large large = refl
 -- PSMASH's lock, and its commit
 pub smash_locks : (m : State) (part : ActorPart) (frame : ℕ) (locks : List PageLock) → part.standing.locks ≡ locks → Stands m part Host (items.Psmash frame)
     → MoveLocks m part Host (items.Psmash frame) (smash_move m.frames (view_of m) part frame locks)
-unfolding smash_move AreTested
+unfolding smash_move AreItemLocks
 smash_locks m part frame [] is stands =
     let facts = facts_of m.contents frame in
     let holder = (view_of m).holder frame in
@@ -217,13 +226,13 @@ smash_locks m part frame [] is stands =
     let lock = page_lock facts.size frame in
     lock_locks m part Host (items.Psmash frame) lock (option_map refused_outcome refusal) stands
     (λ none. page_free m.contents.pages m.actors frame stands.whole stands.exclusive (smash_passes m.frames frame facts holder (no_outcome refusal none)).unheld)
-    (λ none. subst (λ (ls : List PageLock). AtMostOne (IsTestedSmash m.frames m.contents frame) (ls ++ lock ∷ [])) (sym is)
-        (record { lock_is = refl; refused_by_none = smash_stays m.frames frame facts holder (no_outcome refusal none) }, refl))
+    (λ none. first_lock (IsSmashLock m.frames m.contents frame) part lock is stands.tested
+        (record { covers = refl; passes = smash_stays m.frames frame facts holder (no_outcome refusal none) }))
 smash_locks m part frame (lock ∷ others) is stands =
-    let tested = subst (λ (ls : List PageLock). AtMostOne (IsTestedSmash m.frames m.contents frame) ls) is stands.tested in
+    let tested = subst (IsOneLock (IsSmashLock m.frames m.contents frame)) is stands.tested.lock in
     let facts = facts_of m.contents frame in
-    let large = is_large_size facts.size (smash_passes m.frames frame facts None tested.0.refused_by_none).large in
+    let large = is_large_size facts.size (smash_passes m.frames frame facts None tested.0.passes).large in
     memory_locks m part Host (items.Psmash frame) _ _ (pages_smashed lock m.contents.pages)
     (λ f free. smashed_firm lock m.contents.pages f (beside_lock part lock others f is free))
-    (subst (λ (l : PageLock). AreWholePages (pages_smashed l m.contents.pages)) (sym (tested.0.lock_is ∙ ap (λ (size : PageSize). page_lock size frame) large))
+    (subst (λ (l : PageLock). AreWholePages (pages_smashed l m.contents.pages)) (sym (tested.0.covers ∙ ap (λ (size : PageSize). page_lock size frame) large))
     (smashed_whole frame m.contents.pages stands.whole))

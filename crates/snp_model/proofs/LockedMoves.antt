@@ -21,13 +21,19 @@ use Rattle.snp_model.specs.declared.item.Op.TheVariants.{Load, Store, Swap, Comp
 use Rattle.snp_model.specs.declared.scenario.GuestSpec.{GuestSpec}
 use Rattle.snp_model.specs.declared.scenario.Role.{Role}
 use Rattle.snp_model.specs.Locks.{in_range, over, over_lock, covers, locks_frame, locks_context, view_of}
-use Rattle.snp_model.specs.Locked.{actor_at, AreOfOneRegion, AreWholePages, AreExclusive, IsFirm, AreTested}
+use Rattle.snp_model.specs.HeldLocks.{AreItemLocks}
+use Rattle.snp_model.specs.OpenAttempts.{IsAttempt}
 use Rattle.snp_model.specs.Moves.{Move, memory_move, quiet_move, lock_move}
 use Rattle.snp_model.specs.State.{Page, Pages, PageLock, Contents, ActorPart, State, with_word, word_of}
 use Rattle.snp_model.specs.Operations.{outcome_of}
 use Rattle.snp_model.specs.Step.{access_move, pages_after}
 use Rattle.snp_model.proofs.CoreLaws.{with_word_facts, with_word_other}
-use Rattle.snp_model.proofs.LockLaws.{IsUnlocked, IsFree}
+use Rattle.snp_model.proofs.LockLaws.{actor_at, AreOfOneRegion, AreWholePages, HaveOneHolder, IsUnlocked, IsFree}
+
+-- a frame that others have locked is firm: its facts stay, and so do its words where it is assigned and immutable
+pub record IsFirm (new old : Page) : Type 0 where
+  pub facts : new.facts ≡ old.facts
+  pub words : old.facts.assigned ≡ true → old.facts.immutable ≡ true → new.words ≡ old.words
 
 -- an actor's part after an event that leaves its attempt open
 abbrev pub opened : ActorPart → Move → ActorPart
@@ -40,16 +46,17 @@ LocksWhole pages part = (f g : ℕ) → locks_frame f part ≡ true → (pages f
 -- what holds of locks before an event of an actor with this part
 pub record Stands (m : State) (part : ActorPart) (role : Role) (item : Item) : Type 0 where
   pub whole : AreWholePages m.contents.pages
-  pub exclusive : AreExclusive m.contents.pages m.actors
+  pub exclusive : HaveOneHolder m.contents.pages m.actors
   pub locks_whole : LocksWhole m.contents.pages part
-  pub tested : AreTested m.frames m.guests m.contents part.deeds role item part.standing.locks
+  pub tested : AreItemLocks m.frames m.guests m.contents role item part.deeds part.standing
+  pub walking : IsAttempt m.frames role item part.standing part.deeds
 
 -- what an attempt has that goes on
 pub record GoesOn (m : State) (part : ActorPart) (role : Role) (item : Item) (move : Move) : Type 0 where
   pub frames : (f : ℕ) → locks_frame f (opened part move) ≡ true → (locks_frame f part ≡ true) ⊎ IsUnlocked m.actors f
   pub contexts : (g : ℕ) → locks_context g (opened part move) ≡ true → (locks_context g part ≡ true) ⊎ ((k : ℕ) → locks_context g (actor_at m.actors k) ≡ false)
   pub locks_whole : LocksWhole move.contents.pages (opened part move)
-  pub tested : AreTested m.frames m.guests move.contents (part.deeds ++ move.deed ∷ []) role item move.standing.locks
+  pub tested : AreItemLocks m.frames m.guests move.contents role item (part.deeds ++ move.deed ∷ []) move.standing
 
 -- what an event does: no frame and no context but the actor's own changes
 pub record MoveLocks (m : State) (part : ActorPart) (role : Role) (item : Item) (move : Move) : Type 0 where
@@ -63,7 +70,7 @@ firm_itself page = record { facts = refl; words = λ _ _. refl }
 
 -- an event that changes nothing
 pub quiet_locks : (m : State) (part : ActorPart) (role : Role) (item : Item) (deed : Deed) (outcome : Option Outcome) → Stands m part role item
-    → (outcome ≡ None → AreTested m.frames m.guests m.contents (part.deeds ++ deed ∷ []) role item part.standing.locks)
+    → (outcome ≡ None → AreItemLocks m.frames m.guests m.contents role item (part.deeds ++ deed ∷ []) part.standing)
     → MoveLocks m part role item (quiet_move m.contents part deed outcome)
 quiet_locks m part role item deed outcome stands later = record {
   own = λ f _. firm_itself (m.contents.pages f);
@@ -144,7 +151,7 @@ one_more_locked f locks lock = list_any-append (covers f) locks (lock ∷ []) �
 
 pub lock_locks : (m : State) (part : ActorPart) (role : Role) (item : Item) (lock : PageLock) (refusal : Option Outcome) → Stands m part role item
     → (refusal ≡ None → IsFree m.contents.pages m.actors lock)
-    → (refusal ≡ None → AreTested m.frames m.guests m.contents (part.deeds ++ deeds.Lock lock.frame ∷ []) role item (part.standing.locks ++ lock ∷ []))
+    → (refusal ≡ None → AreItemLocks m.frames m.guests m.contents role item (part.deeds ++ deeds.Lock lock.frame ∷ []) (record part.standing { locks = part.standing.locks ++ lock ∷ [] }))
     → MoveLocks m part role item (lock_move m.contents part lock refusal)
 unfolding lock_move
 lock_locks m part role item lock (Some outcome) stands free tested = ended_locks m part role item (deeds.Lock lock.frame) outcome stands

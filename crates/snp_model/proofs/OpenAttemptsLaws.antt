@@ -155,7 +155,7 @@ abbrev CommitsAt : Arrival → Type 0
 CommitsAt arrives = (gpn : ℕ) (private : Bool) (frame : ℕ) (size : PageSize) → (outcome : Outcome) × ((arrives gpn private frame size).outcome ≡ Some outcome)
 
 -- walks that have led to a page have only what is done there left
-arrived_move : (frames : ℕ) (guests : List GuestSpec) (contents : Contents) (part : ActorPart) (cpu : Processor) (lookup : Lookup) (refusal : Option Outcome) (arrives : Arrival) (made : List Deed) (gpn : ℕ) (private : Bool) (frame : ℕ) (leaf : PageSize)
+pub arrived_move : (frames : ℕ) (guests : List GuestSpec) (contents : Contents) (part : ActorPart) (cpu : Processor) (lookup : Lookup) (refusal : Option Outcome) (arrives : Arrival) (made : List Deed) (gpn : ℕ) (private : Bool) (frame : ℕ) (leaf : PageSize)
     → 0 < length made → need_after frames cpu lookup made ≡ needs.Data gpn private frame leaf → walked_move frames guests contents part cpu lookup refusal arrives made ≡ arrives gpn private frame leaf
 unfolding walked_move need_move
 arrived_move frames guests contents part cpu lookup refusal arrives [] gpn private frame leaf some need = absurd (omega arith)

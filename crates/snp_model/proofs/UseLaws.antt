@@ -215,7 +215,7 @@ pub pass_holds : (facts : RmpEntry) (place : Place) (op : Op) → private_verdic
 unfolding private_verdict
 pass_holds facts place op e = grind (arith, nat_tests)
 
-pass_mutable : (facts : RmpEntry) (place : Place) (op : Op) → private_verdict facts place op ≡ Pass → facts.immutable ≡ false
+pub pass_mutable : (facts : RmpEntry) (place : Place) (op : Op) → private_verdict facts place op ≡ Pass → facts.immutable ≡ false
 unfolding private_verdict
 pass_mutable facts place op e = grind (arith, nat_tests)
 
@@ -255,7 +255,7 @@ private_faults : (facts : RmpEntry) (place : Place) (op : Op) (outcome : Outcome
 private_faults facts place op outcome gpn index e = (private_quiet facts place op gpn index).quiet outcome e
 
 -- a host access passes on a frame that holds no page
-host_holds_none : (facts : RmpEntry) (op : Op) → host_verdict facts op ≡ Pass → facts.assigned ≡ false
+pub host_holds_none : (facts : RmpEntry) (op : Op) → host_verdict facts op ≡ Pass → facts.assigned ≡ false
 unfolding host_verdict
 host_holds_none facts Load e = grind (arith, nat_tests)
 host_holds_none facts (Store value) e = grind (arith, nat_tests)
@@ -308,7 +308,7 @@ host_fine guest asid archive memory old part item op frame index Hidden before i
 host_fine guest asid archive memory old part item op frame index (Fault outcome) before is = record { fine = nothing_fine guest asid archive memory old before }
 
 -- a shared access passes where it writes no guest's page
-shared_holds_none : (facts : RmpEntry) (place : Place) (op : Op) → shared_verdict facts place op ≡ Pass → facts.assigned ≡ false
+pub shared_holds_none : (facts : RmpEntry) (place : Place) (op : Op) → shared_verdict facts place op ≡ Pass → facts.assigned ≡ false
 unfolding shared_verdict
 shared_holds_none facts place Load e = grind (arith, nat_tests)
 shared_holds_none facts place (Store value) e = grind (arith, nat_tests)

@@ -29,7 +29,6 @@ pub mod Journal
 pub mod Limits
 pub mod Lines
 pub mod Live
-pub mod Locked
 pub mod Locks
 pub mod MadePages
 pub mod Measurement
