@@ -5,6 +5,7 @@ pub mod CommandLaws
 pub mod CoreLaws
 pub mod FindingLaws
 pub mod FirmwareLocality
+pub mod FirmwareLocked
 pub mod EntriesLaws
 pub mod GuestMemoryLaws
 pub mod GuestReadsLaws

@@ -29,7 +29,7 @@ pub record HaveOneHolder (pages : Pages) (actors : List ActorPart) : Type 0 wher
   pub contexts_by_one : (j k guest : ℕ) → locks_context guest (actor_at actors j) ≡ true → locks_context guest (actor_at actors k) ≡ true → j ≡ k
   pub whole : (k f g : ℕ) → locks_frame f (actor_at actors k) ≡ true → (pages f).facts.size ≡ Large → AreOfOneRegion f g → locks_frame g (actor_at actors k) ≡ true
 
-not_true : (b : Bool) → (b ≡ true → ⊥) → b ≡ false
+pub not_true : (b : Bool) → (b ≡ true → ⊥) → b ≡ false
 not_true true none = absurd (none refl)
 not_true false none = refl
 
@@ -58,7 +58,7 @@ pub first_none : {A : Type 0} (one other : Option A) → option_or one other ≡
 first_none (Some x) other none = absurd cc
 first_none None other none = refl
 
-others_none : {A : Type 0} (one other : Option A) → option_or one other ≡ None → other ≡ None
+pub others_none : {A : Type 0} (one other : Option A) → option_or one other ≡ None → other ≡ None
 others_none (Some x) other none = absurd cc
 others_none None other none = none
 
@@ -225,7 +225,7 @@ pub record Grows (pages new : Pages) (actors : List ActorPart) (a : ℕ) (part :
   pub whole : (f g : ℕ) → locks_frame f part ≡ true → (new f).facts.size ≡ Large → AreOfOneRegion f g → locks_frame g part ≡ true
   pub sizes : (f : ℕ) → locks_frame f (actor_at actors a) ≡ false → (new f).facts.size ≡ (pages f).facts.size
 
-context_idle : (g : ℕ) → locks_context g idle_part ≡ false
+pub context_idle : (g : ℕ) → locks_context g idle_part ≡ false
 unfolding idle_part
 context_idle g = refl
 
