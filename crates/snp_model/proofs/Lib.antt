@@ -14,6 +14,7 @@ pub mod MoveLocality
 pub mod NestedReadsLaws
 pub mod OpenAttemptsLaws
 pub mod OpeningLaws
+pub mod OpeningParts
 pub mod OrderedLaws
 pub mod PageBytesLaws
 pub mod RangeLaws

@@ -41,7 +41,7 @@ pub record RangesApart (page other : PageSpec) : Type 0 where
   pub apart : (q : ℕ) → page.guest ≡ other.guest → in_range page.gpn (frames_in page.size) q ≡ true → in_range other.gpn (frames_in other.size) q ≡ true → ⊥
 
 -- the facts of a frame with one more page: the page's, or those before
-page_or_before : (guests : List GuestSpec) (page : PageSpec) (facts : ℕ → RmpEntry) (f : ℕ) (P : RmpEntry → Type 0)
+pub page_or_before : (guests : List GuestSpec) (page : PageSpec) (facts : ℕ → RmpEntry) (f : ℕ) (P : RmpEntry → Type 0)
     → (in_range page.frame (frames_in page.size) f ≡ true → P (page_facts guests page (f - page.frame))) → P (facts f) → P (with_page guests page facts f)
 page_or_before guests page facts f P inside otherwise = cond_both (in_range page.frame (frames_in page.size) f) _ _ P inside (λ _. otherwise)
 
@@ -252,7 +252,7 @@ opening_dead guests guest lines words asid archive InRoot entry live = some_none
 opening_dead guests guest lines words asid archive (Under s number) entry live = opening_dead guests guest lines words asid archive s live.0 live.1
 
 -- every frame has its 512 words
-zero_length : length zero_words ≡ 512
+pub zero_length : length zero_words ≡ 512
 unfolding zero_words
 zero_length = refl
 

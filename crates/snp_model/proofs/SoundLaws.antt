@@ -1,6 +1,7 @@
 -- A scenario that lines can make is sound: each line keeps the bounds.
 use Rattle.std.proofs.Common.{◌≡◌, ℕ, zero, suc, ◌+◌, ◌*◌, ◌%◌, ◌^◌, ◌<◌, ◌≤◌, ◌⊎◌, Bool, true, false, cond, List, [], ◌∷◌, ◌++◌, length, Result, Ok, Err, Option, Some, None, refl, sym, ap, ◌∙◌, subst, arith, inl, inr, ⊎_elim}
 use Rattle.std.proofs.lemmas.List.{length-append, length-replicate, length-take-le}
+use Rattle.std.proofs.lemmas.Bool.{cond_both}
 use Rattle.std.proofs.lemmas.Bool.Decides.{nat_tests}
 use Rattle.snp_model.specs.declared.reading.Reason.TheVariants.{Form, Repeat, Guest, Range}
 use Rattle.snp_model.specs.declared.entry.PageSize.{PageSize}
@@ -26,7 +27,7 @@ use Rattle.snp_model.specs.declared.scenario.Turn.{Turn}
 use Rattle.snp_model.specs.declared.scenario.WordSpec.{WordSpec}
 use Rattle.snp_model.specs.Attempts.{attempts_of, actors_attempts, script_attempts}
 use Rattle.snp_model.specs.ItemLines.{once, address_word, load_row, store_row, swap_row, cas_row, xor_row, skip_test, skip_row, skip_value_row, skip_item, access_item, item_words}
-use Rattle.snp_model.specs.Lines.{◌>>=◌, ◌>>◌, cut_at, decimal, is_row, is_plain, words_of, require, word, fixed, number, ranged, below, multiple}
+use Rattle.snp_model.specs.Lines.{◌>>=◌, ◌>>◌, cut_at, decimal, decimal_of, hex_of, number_of, value_after, in_word, is_decimal, is_hex, is_prefixed, or_reason, is_row, is_plain, words_of, require, word, fixed, number, ranged, below, multiple}
 use Rattle.snp_model.specs.declared.reading.Quantity.{Quantity}
 use Rattle.snp_model.specs.declared.reading.Quantity.TheVariants as quantities
 use Rattle.snp_model.specs.Reading.{Made, nothing, reading, closed, Fault, refused, is_passed_over, turns_spell, order_of, by_rule, within, fit, fit_line, fit_words, add_regions, add_guest, add_page, add_word, add_actor, add_line, add_item_of, add_item, add_order, add_words, turns_count, Makes, Valid}
@@ -62,6 +63,37 @@ below_ok end w n h =
     let step = bind_ok (number w) (λ (k : ℕ). cond (nat_lt k end) (Ok k) (Err _)) n h in
     let one = guard_ok (nat_lt step.0 end) step.0 n _ step.2 in
     grind (arith, nat_tests, one.0, one.1)
+
+-- a number is below 2^64
+guarded : (b : Bool) (o : Option ℕ) (n : ℕ) → cond b o None ≡ Some n → o ≡ Some n
+guarded true o n h = h
+guarded false o n h = absurd (cc)
+
+in_word_ok : (k n : ℕ) → in_word k ≡ Some n → n < 2 ^ 64
+in_word_ok k n h =
+    cond_both (nat_lt k (2 ^ 64)) _ _ (λ (o : Option ℕ). o ≡ Some n → n < 2 ^ 64)
+    (λ small is. let same : k ≡ n = cc in grind (arith, nat_tests, small, same)) (λ large is. absurd (cc)) h
+
+decimal_ok : (digits : List ℕ) (n : ℕ) → decimal_of digits ≡ Some n → n < 2 ^ 64
+unfolding decimal_of
+decimal_ok digits n h = in_word_ok (value_after 10 0 digits) n (guarded (is_decimal digits) (in_word (value_after 10 0 digits)) n h)
+
+hex_ok : (digits : List ℕ) (n : ℕ) → hex_of digits ≡ Some n → n < 2 ^ 64
+unfolding hex_of
+hex_ok digits n h = in_word_ok (value_after 16 0 digits) n (guarded (is_hex digits) (in_word (value_after 16 0 digits)) n h)
+
+number_of_ok : (w : List ℕ) (n : ℕ) → number_of w ≡ Some n → n < 2 ^ 64
+unfolding number_of
+number_of_ok w n h =
+    cond_both (is_prefixed w) _ _ (λ (o : Option ℕ). o ≡ Some n → n < 2 ^ 64) (λ _. hex_ok (drop 2 w) n) (λ _. decimal_ok w n) h
+
+reason_ok : (o : Option ℕ) (reason : Reason) (n : ℕ) → or_reason o reason ≡ Ok n → o ≡ Some n
+reason_ok (Some k) reason n h = cc
+reason_ok None reason n h = absurd (cc)
+
+number_ok : (w : List ℕ) (n : ℕ) → number w ≡ Ok n → n < 2 ^ 64
+unfolding number
+number_ok w n h = number_of_ok w n (reason_ok (number_of w) _ n h)
 
 ranged_ok : (low high : ℕ) (w : List ℕ) (n : ℕ) → ranged low high w ≡ Ok n → (low ≤ n) × (n ≤ high)
 unfolding ranged
@@ -136,7 +168,7 @@ page_more frames frames' guests guests' more_frames more_guests page is =
     record { frame = let h = is.frame in omega arith; guest_some = is.guest_some; guest_most = let h = is.guest_most in omega arith; gpn = is.gpn; size = is.size; perms_three = is.perms_three; perms = is.perms }
 
 word_more : (frames frames' : ℕ) → frames ≤ frames' → (word : WordSpec) → IsWord frames word → IsWord frames' word
-word_more frames frames' more word is = record { frame = let h = is.frame in omega arith; index = is.index }
+word_more frames frames' more word is = record { frame = let h = is.frame in omega arith; index = is.index; value = is.value }
 
 role_more : (frames frames' guests guests' : ℕ) → frames ≤ frames' → guests ≤ guests' → (role : Role) → IsRole frames guests role → IsRole frames' guests' role
 role_more frames frames' guests guests' more_frames more_guests (Cpu guest vmpl npt paging) is =
@@ -256,20 +288,20 @@ page_row_ok c ws page h =
     (below_ok _ _) (below_ok _ _) (size_ok _) (below_ok _ _) (below_ok _ _) (below_ok _ _) h
 
 word_chain : (c : Scenario) (frame index value : Result ℕ Reason) (made : WordSpec)
-    → ((n : ℕ) → frame ≡ Ok n → n < frames_of c) → ((n : ℕ) → index ≡ Ok n → n < 512)
+    → ((n : ℕ) → frame ≡ Ok n → n < frames_of c) → ((n : ℕ) → index ≡ Ok n → n < 512) → ((n : ℕ) → value ≡ Ok n → n < 2 ^ 64)
     → (frame >>= (λ (f : ℕ). index >>= (λ (i : ℕ). value >>= (λ (v : ℕ). Ok (let w : WordSpec = record { frame = f; index = i; value = v } in w))))) ≡ Ok made
     → IsWord (frames_of c) made
-word_chain c (Err e) index value made b1 b2 h = absurd (cc)
-word_chain c (Ok f) (Err e) value made b1 b2 h = absurd (cc)
-word_chain c (Ok f) (Ok i) (Err e) made b1 b2 h = absurd (cc)
-word_chain c (Ok f) (Ok i) (Ok v) made b1 b2 h =
+word_chain c (Err e) index value made b1 b2 b3 h = absurd (cc)
+word_chain c (Ok f) (Err e) value made b1 b2 b3 h = absurd (cc)
+word_chain c (Ok f) (Ok i) (Err e) made b1 b2 b3 h = absurd (cc)
+word_chain c (Ok f) (Ok i) (Ok v) made b1 b2 b3 h =
     let word : WordSpec = record { frame = f; index = i; value = v } in
     let same : word ≡ made = cc in
-    subst (IsWord (frames_of c)) same (record { frame = b1 f refl; index = b2 i refl })
+    subst (IsWord (frames_of c)) same (record { frame = b1 f refl; index = b2 i refl; value = b3 v refl })
 
 word_row_ok : (c : Scenario) (ws : List (List ℕ)) (made : WordSpec) → word_row c ws ≡ Ok made → IsWord (frames_of c) made
 unfolding word_row
-word_row_ok c ws made h = word_chain c (below (frames_of c) (word ws 1)) (below 512 (word ws 2)) (number (word ws 3)) made (below_ok _ _) (below_ok _ _) h
+word_row_ok c ws made h = word_chain c (below (frames_of c) (word ws 1)) (below 512 (word ws 2)) (number (word ws 3)) made (below_ok _ _) (below_ok _ _) (number_ok _) h
 
 cpu_chain : (c : Scenario) (next : Result ℕ Reason) (first : Result (Unit {0}) Reason) (guest : Result ℕ Reason) (second : Result (Unit {0}) Reason) (vmpl : Result ℕ Reason) (third : Result (Unit {0}) Reason) (npt : Result ℕ Reason) (fourth : Result (Unit {0}) Reason) (made : Role)
     → ((n : ℕ) → vmpl ≡ Ok n → n < 4) → ((n : ℕ) → npt ≡ Ok n → n < frames_of c)

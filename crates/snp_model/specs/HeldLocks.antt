@@ -1,4 +1,4 @@
--- What the locks of pages and contexts keep in every state: they have one holder each, what their tests asked still holds, and what is locked stays as it is (this project's own).
+-- That the locks of pages and contexts have one holder each, that what their tests asked still holds, and that what is locked stays as it is (this project's own).
 use Rattle.std.specs.Prelude.{◌≡◌, ℕ, ◌+◌, ◌<◌, Bool, true, List, [], ◌∷◌, slice_get, Option, Some, None}
 use Rattle.std.specs.Option.{option_or}
 use Rattle.snp_model.specs.declared.access.Place.{Place}

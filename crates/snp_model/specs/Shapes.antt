@@ -1,4 +1,4 @@
--- What holds of the facts and words of each frame in every state: who owns it, what it is used for, and that a page of 2 MB is whole (APM volume 2, 15.36.3; the kinds, and that all of it holds, are this project's own).
+-- That the facts of each frame go together, that a page of 2 MB is whole, that words are full, and that guests have ASIDs of their own (APM volume 2, 15.36.3; the kinds are this project's own).
 use Rattle.std.specs.Prelude.{◌≡◌, ◌≢◌, ℕ, ◌+◌, ◌/◌, ◌%◌, ◌<◌, true, false, List}
 use Rattle.std.specs.List.{AllByRecursion}
 use Rattle.snp_model.specs.declared.entry.Kind.TheVariants as kinds

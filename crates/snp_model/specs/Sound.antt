@@ -49,6 +49,7 @@ GpnsDiffer page other = page.guest ≡ other.guest → page.gpn ≢ other.gpn
 pub record IsWord (frames : ℕ) (word : WordSpec) : Type 0 where
   pub frame : word.frame < frames
   pub index : word.index < 512
+  pub value : word.value < 2 ^ 64
 
 -- an actor
 pub record IsActor (frames guests : ℕ) (actor : Actor) : Type 0 where
