@@ -2,6 +2,7 @@
 use Rattle.std.proofs.Common.{◌≡◌, ◌≢◌, ℕ, zero, suc, ◌+◌, ◌-◌, ◌*◌, ◌^◌, ◌<◌, ◌≤◌, true, false, Bool, eqb, replicate, List, [], ◌∷◌, length, map, get_or, set, slice_get, Option, Some, None, refl, sym, ap, ◌∙◌, subst, arith}
 use Rattle.std.specs.List.{AllByRecursion}
 use Rattle.std.proofs.lemmas.Bool.{cond_both, true≢false}
+use Rattle.std.proofs.lemmas.Bool.Decides.{nat_tests}
 use Rattle.std.proofs.lemmas.List.{get_or-set_same, get_or-set_other}
 use Rattle.snp_model.specs.declared.command.Command.{Command}
 use Rattle.snp_model.specs.declared.entry.Kind.TheVariants as kinds
@@ -20,12 +21,12 @@ use Rattle.snp_model.specs.declared.scenario.Scenario.{Scenario}
 use Rattle.snp_model.specs.declared.scenario.WordSpec.{WordSpec}
 use Rattle.snp_model.specs.Facts.{free_entry, frames_in}
 use Rattle.snp_model.specs.HeldLocks.{AreExclusive, AreItemLocks, AreTested, HasThroughout, StaysAs, StaysLocked, AreLocked}
-use Rattle.snp_model.specs.Locks.{locks_frame, locks_context}
+use Rattle.snp_model.specs.Locks.{in_range, locks_frame, locks_context}
 use Rattle.snp_model.specs.MadePages.{AreMade}
-use Rattle.snp_model.specs.Opening.{asid_of, page_facts, with_page, facts_from, with_word_spec, words_from, opening_part, opening}
+use Rattle.snp_model.specs.Opening.{asid_of, page_facts, with_page, facts_from, with_word_spec, words_from, opening_context, opening_part, opening}
 use Rattle.snp_model.specs.Past.{Past}
 use Rattle.snp_model.specs.Run.{IsDefinedFrom, state_from}
-use Rattle.snp_model.specs.Shapes.{AreFactsOf, IsFirmwares, IsNobodys, AreShaped, HasAsid}
+use Rattle.snp_model.specs.Shapes.{AreInRange, AreFactsOf, IsFirmwares, IsNobodys, AreShaped, HasAsid}
 use Rattle.snp_model.specs.ScenarioLines.{frames_of}
 use Rattle.snp_model.specs.Sound.{Pairwise, IsGuest, IsPage, IsWord, IsSound}
 use Rattle.snp_model.specs.State.{Contents, Computed, ActorPart, State, Standing, nothing_taken, idle_part, part_of, zero_words}
@@ -111,21 +112,42 @@ pub record IsPlainFrame (facts : RmpEntry) : Type 0 where
   pub plain : facts.kind ≡ kinds.Plain
   pub size_is : facts.size ≡ Small
   pub free : facts.assigned ≡ false → facts.asid ≡ 0
+  pub ranges : AreInRange facts
+
+-- numbers that are each below 16 are bytes
+below_byte : (numbers : List ℕ) (index : ℕ) → AllByRecursion (λ (n : ℕ). n < 16) numbers → get_or numbers index 0 < 2 ^ 8
+below_byte [] index small = omega arith
+below_byte (n ∷ ns) zero small = let one = small.0 in omega arith
+below_byte (n ∷ ns) (suc index) small = below_byte ns index small.1
 
 free_plain : IsPlainFrame free_entry
 unfolding free_entry
-free_plain = record { owned = λ _. refl; plain = refl; size_is = refl; free = λ _. refl }
+free_plain = record { owned = λ _. refl; plain = refl; size_is = refl; free = λ _. refl; ranges = record { gpn = omega arith; asid = omega arith; perms_count = refl; perms = λ index. below_byte (0 ∷ 0 ∷ 0 ∷ 0 ∷ []) index (omega arith, (omega arith, (omega arith, (omega arith, tt)))) } }
+
+asid_below : (guests : List GuestSpec) (k : ℕ) → AllByRecursion IsGuest guests → get_or (map (λ (spec : GuestSpec). spec.asid) guests) k 0 < 2 ^ 16
+asid_below [] k are = omega arith
+asid_below (spec ∷ specs) zero are = let low = are.0.asid_below in omega arith
+asid_below (spec ∷ specs) (suc k) are = asid_below specs k are.1
 
 asid_some : (guests : List GuestSpec) (k : ℕ) → AllByRecursion IsGuest guests → k < length guests → 0 < get_or (map (λ (spec : GuestSpec). spec.asid) guests) k 0
 asid_some [] k are inside = absurd (let h = inside in omega arith)
 asid_some (spec ∷ specs) zero are inside = are.0.asid_some
 asid_some (spec ∷ specs) (suc k) are inside = asid_some specs k are.1 (let h = inside in omega arith)
 
-page_plain : (frames : ℕ) (guests : List GuestSpec) (page : PageSpec) (place : ℕ) → AllByRecursion IsGuest guests → IsPage frames (length guests) page → IsPlainFrame (page_facts guests page place)
+page_plain : (frames : ℕ) (guests : List GuestSpec) (page : PageSpec) (place : ℕ) → place < 2 ^ 32 → AllByRecursion IsGuest guests → IsPage frames (length guests) page → IsPlainFrame (page_facts guests page place)
 unfolding page_facts
-page_plain frames guests page place are is =
+page_plain frames guests page place low are is =
     let some = asid_some guests (page.guest - 1) are (let low = is.guest_some in let high = is.guest_most in omega arith) in
-    record { owned = λ none. absurd (let h = none in omega arith); plain = refl; size_is = is.size; free = λ unassigned. absurd (cc) }
+    record { owned = λ none. absurd (let h = none in omega arith); plain = refl; size_is = is.size; free = λ unassigned. absurd (cc); ranges = record {
+        gpn = let high = is.gpn in omega arith;
+        asid = asid_below guests (page.guest - 1) are;
+        perms_count = ap suc is.perms_three;
+        perms = λ index. below_byte (15 ∷ page.perms) index (omega arith, is.perms);
+      } }
+
+near : (base : ℕ) (size : PageSize) (frame : ℕ) → in_range base (frames_in size) frame ≡ true → frame - base < 2 ^ 32
+near base Small frame inside = grind (arith, nat_tests, inside)
+near base Large frame inside = grind (arith, nat_tests, inside)
 
 facts_plain : (frames : ℕ) (guests : List GuestSpec) (pages : List PageSpec) (facts : ℕ → RmpEntry) → AllByRecursion IsGuest guests → AllByRecursion (IsPage frames (length guests)) pages
     → ((f : ℕ) → IsPlainFrame (facts f)) → (f : ℕ) → IsPlainFrame (facts_from guests facts pages f)
@@ -133,13 +155,14 @@ unfolding facts_from
 facts_plain frames guests [] facts are lines plain f = plain f
 facts_plain frames guests (page ∷ pages) facts are lines plain f =
     facts_plain frames guests pages (with_page guests page facts) are lines.1
-    (λ g. page_or_before guests page facts g IsPlainFrame (λ inside. page_plain frames guests page (g - page.frame) are lines.0) (plain g)) f
+    (λ g. page_or_before guests page facts g IsPlainFrame (λ inside. page_plain frames guests page (g - page.frame) (near page.frame page.size g inside) are lines.0) (plain g)) f
 
 plain_facts : (facts : RmpEntry) → IsPlainFrame facts → AreFactsOf facts
 plain_facts facts plain = record {
   owned = plain.owned;
   used = λ other. absurd (other plain.plain);
   free = λ unassigned. record { no_guest = plain.free unassigned; size_is = plain.size_is };
+  ranges = plain.ranges;
 }
 
 small_large : (size : PageSize) → size ≡ Small → size ≡ Large → ⊥
@@ -172,7 +195,13 @@ words_fit frames (word ∷ others) words are fit f index =
 
 guests_have : (guests : List GuestSpec) → AllByRecursion IsGuest guests → AllByRecursion HasAsid guests
 guests_have [] are = tt
-guests_have (guest ∷ guests) are = (are.0.asid_some, guests_have guests are.1)
+guests_have (guest ∷ guests) are = (record { some = are.0.asid_some; fits = let low = are.0.asid_below in omega arith }, guests_have guests are.1)
+
+opening_counter : (guests : List GuestSpec) (k : ℕ) → AllByRecursion IsGuest guests → (opening_context (slice_get guests k)).iv < 2 ^ 64
+unfolding opening_context
+opening_counter [] k are = omega arith
+opening_counter (guest ∷ guests) zero are = are.0.iv
+opening_counter (guest ∷ guests) (suc k) are = opening_counter guests k are.1
 
 pub opening_shaped : (c : Scenario) → IsSound c → AreShaped (opening c)
 unfolding opening
@@ -183,5 +212,7 @@ opening_shaped c sound =
       facts = λ frame. plain_facts (facts_from c.guests (λ _. free_entry) c.pages frame) (plain frame);
       whole = λ frame large. absurd (small_large _ (plain frame).size_is large);
       words = λ frame. record { whole = opening_whole c.words frame; fits = λ index. words_fit (frames_of c) c.words (λ _. zero_words) sound.words (λ _ k. zeros_fit k) frame index };
-      asids = record { some = guests_have c.guests sound.guests; differ = sound.asids_differ; kept = λ guest. opening_asid c.guests guest };
+      have_asids = guests_have c.guests sound.guests;
+      asids_differ = sound.asids_differ;
+      contexts = λ guest. record { asid_is = opening_asid c.guests guest; counter = opening_counter c.guests (guest - 1) sound.guests };
     }

@@ -200,18 +200,18 @@ unfolding opening
 opening_ok w opened h = sym (guard_ok (bytes_eq w (codes "opened")) true opened _ h).1
 
 guest_chain : (c : Scenario) (next : Result ℕ Reason) (opened : Result Bool Reason) (first : Result (Unit {0}) Reason) (asid : Result ℕ Reason) (second : Result (Unit {0}) Reason) (iv : Result ℕ Reason) (third : Result (Unit {0}) Reason) (key : Result (List ℕ) Reason) (guest : GuestSpec)
-    → ((b : Bool) → opened ≡ Ok b → b ≡ true) → ((n : ℕ) → asid ≡ Ok n → (1 ≤ n) × (n ≤ 1023))
+    → ((b : Bool) → opened ≡ Ok b → b ≡ true) → ((n : ℕ) → asid ≡ Ok n → (1 ≤ n) × (n ≤ 1023)) → ((n : ℕ) → iv ≡ Ok n → n < 2 ^ 64)
     → (next >> (opened >>= (λ (b : Bool). first >> (asid >>= (λ (n : ℕ). second >> (iv >>= (λ (i : ℕ). third >> (key >>= (λ (k : List ℕ). require (not (list_any (has_asid n) c.guests)) Repeat >> Ok (let g : GuestSpec = record { opened = b; asid = n; iv = i; key = k } in g)))))))))) ≡ Ok guest
     → GuestFacts c guest
-guest_chain c (Err e) opened first asid second iv third key guest opens bounds h = absurd (cc)
-guest_chain c (Ok n) (Err e) first asid second iv third key guest opens bounds h = absurd (cc)
-guest_chain c (Ok n) (Ok b) (Err e) asid second iv third key guest opens bounds h = absurd (cc)
-guest_chain c (Ok n) (Ok b) (Ok u) (Err e) second iv third key guest opens bounds h = absurd (cc)
-guest_chain c (Ok n) (Ok b) (Ok u) (Ok a) (Err e) iv third key guest opens bounds h = absurd (cc)
-guest_chain c (Ok n) (Ok b) (Ok u) (Ok a) (Ok v) (Err e) third key guest opens bounds h = absurd (cc)
-guest_chain c (Ok n) (Ok b) (Ok u) (Ok a) (Ok v) (Ok i) (Err e) key guest opens bounds h = absurd (cc)
-guest_chain c (Ok n) (Ok b) (Ok u) (Ok a) (Ok v) (Ok i) (Ok w) (Err e) guest opens bounds h = absurd (cc)
-guest_chain c (Ok n) (Ok b) (Ok u) (Ok a) (Ok v) (Ok i) (Ok w) (Ok k) guest opens bounds h =
+guest_chain c (Err e) opened first asid second iv third key guest opens bounds counter h = absurd (cc)
+guest_chain c (Ok n) (Err e) first asid second iv third key guest opens bounds counter h = absurd (cc)
+guest_chain c (Ok n) (Ok b) (Err e) asid second iv third key guest opens bounds counter h = absurd (cc)
+guest_chain c (Ok n) (Ok b) (Ok u) (Err e) second iv third key guest opens bounds counter h = absurd (cc)
+guest_chain c (Ok n) (Ok b) (Ok u) (Ok a) (Err e) iv third key guest opens bounds counter h = absurd (cc)
+guest_chain c (Ok n) (Ok b) (Ok u) (Ok a) (Ok v) (Err e) third key guest opens bounds counter h = absurd (cc)
+guest_chain c (Ok n) (Ok b) (Ok u) (Ok a) (Ok v) (Ok i) (Err e) key guest opens bounds counter h = absurd (cc)
+guest_chain c (Ok n) (Ok b) (Ok u) (Ok a) (Ok v) (Ok i) (Ok w) (Err e) guest opens bounds counter h = absurd (cc)
+guest_chain c (Ok n) (Ok b) (Ok u) (Ok a) (Ok v) (Ok i) (Ok w) (Ok k) guest opens bounds counter h =
     let made : GuestSpec = record { opened = b; asid = a; iv = i; key = k } in
     let final : Result GuestSpec Reason = Ok made in
     let step = then_ok (require (not (list_any (has_asid a) c.guests)) Repeat) final guest h in
@@ -219,7 +219,7 @@ guest_chain c (Ok n) (Ok b) (Ok u) (Ok a) (Ok v) (Ok i) (Ok w) (Ok k) guest open
     let none : list_any (has_asid a) c.guests ≡ false = let e = require_ok (not (list_any (has_asid a) c.guests)) Repeat step.0 step.1 in grind (arith, nat_tests, e) in
     let bound = bounds a refl in
     subst (GuestFacts c) same (record {
-      is = record { opened = opens b refl; asid_some = omega (arith, bound.0); asid_below = omega (arith, bound.1) };
+      is = record { opened = opens b refl; asid_some = omega (arith, bound.0); asid_below = omega (arith, bound.1); iv = counter i refl };
       differs = none_any (has_asid a) (λ (other : GuestSpec). AsidsDiffer other made) c.guests (λ other fails same_asid. absurd (grind (arith, nat_tests, fails, same_asid))) none;
     })
 
@@ -227,7 +227,7 @@ guest_row_ok : (c : Scenario) (ws : List (List ℕ)) (guest : GuestSpec) → gue
 unfolding guest_row
 guest_row_ok c ws guest h =
     guest_chain c (next_number (length c.guests) (word ws 1)) (opening (word ws 2)) (fixed (word ws 3) (codes "asid")) (ranged 1 1023 (word ws 4)) (fixed (word ws 5) (codes "iv")) (number (word ws 6)) (fixed (word ws 7) (codes "key")) (key_of (word ws 8)) guest
-    (λ b is. opening_ok (word ws 2) b is) (λ n is. ranged_ok 1 1023 (word ws 4) n is) h
+    (λ b is. opening_ok (word ws 2) b is) (λ n is. ranged_ok 1 1023 (word ws 4) n is) (λ n is. number_ok (word ws 6) n is) h
 
 -- the guests that stand are opened, so an opened one is declared
 opened_declared : (guests : List GuestSpec) (guest : ℕ) → is_opened guests guest ≡ true → (0 < guest) × (guest ≤ length guests)

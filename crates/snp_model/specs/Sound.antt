@@ -25,6 +25,7 @@ pub record IsGuest (guest : GuestSpec) : Type 0 where
   pub opened : guest.opened ≡ true
   pub asid_some : 0 < guest.asid
   pub asid_below : guest.asid < 1024
+  pub iv : guest.iv < 2 ^ 64
 
 abbrev pub AsidsDiffer : GuestSpec → GuestSpec → Type 0
 AsidsDiffer guest other = guest.asid ≢ other.asid
