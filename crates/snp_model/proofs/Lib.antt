@@ -6,6 +6,7 @@ pub mod FindingLaws
 pub mod EntriesLaws
 pub mod GuestMemoryLaws
 pub mod GuestReadsLaws
+pub mod HeldLocksLaws
 pub mod InstructionLocality
 pub mod LocalityLaws
 pub mod MemoryLaws
