@@ -1,11 +1,11 @@
 -- Pages of a region of the RMP that are changed as a whole.
-use Rattle.std.proofs.Common.{◌≡◌, ℕ, List, Option, None, get_or, ◌+◌, ◌-◌, ◌*◌, ◌/◌, ◌%◌, ◌<◌, ◌≤◌, true, false, refl, sym, ap, ◌∙◌, inl, inr, arith}
-use Rattle.std.proofs.lemmas.Bool.{cases_Bool, cases_lt, cond-true, cond-false}
+use Rattle.std.proofs.Common.{◌≡◌, ℕ, None, get_or, ◌+◌, ◌-◌, ◌*◌, ◌/◌, ◌<◌, ◌≤◌, true, false, refl, sym, ap, ◌∙◌, inl, inr, arith}
+use Rattle.std.proofs.lemmas.Bool.{cases_Bool, cond-true, cond-false}
 use Rattle.std.proofs.lemmas.Bool.Decides.{nat_tests}
 use Rattle.snp_model.specs.declared.entry.RmpEntry.{RmpEntry}
 use Rattle.snp_model.specs.declared.entry.PageSize.{PageSize}
 use Rattle.snp_model.specs.declared.entry.PageSize.TheVariants.{Small, Large}
-use Rattle.snp_model.specs.Entries.{Entries, IsOnePage, IsTable, facts_at, facts_within, holder_at, with_entry}
+use Rattle.snp_model.specs.Entries.{Entries, IsTable, facts_at, facts_within, holder_at, with_entry}
 use Rattle.snp_model.specs.Facts.{free_entry, frames_in, page_base}
 use Rattle.snp_model.specs.Locks.{in_range, over, over_lock, page_lock}
 

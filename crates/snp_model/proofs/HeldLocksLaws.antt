@@ -1,5 +1,5 @@
 -- A lock that is taken passes its tests: what they ask beside a holder holds from then on.
-use Rattle.std.proofs.Common.{◌≡◌, ℕ, zero, suc, ◌+◌, Bool, true, false, cond, List, length, Option, Some, None, refl, sym, ap, ◌∙◌}
+use Rattle.std.proofs.Common.{◌≡◌, ℕ, zero, suc, ◌+◌, Bool, true, false, cond, List, Option, Some, None, refl, ap, ◌∙◌}
 use Rattle.std.specs.Option.{option_or}
 use Rattle.snp_model.specs.declared.access.Place.{Place}
 use Rattle.snp_model.specs.declared.command.Command.{Command}
@@ -14,7 +14,7 @@ use Rattle.snp_model.specs.Facts.{frames_in}
 use Rattle.snp_model.specs.Firmware.{CommandPage, has_equal_frames}
 use Rattle.snp_model.specs.FirmwareLocks.{guest_refusal, frame_refusal, unless_held, context_refusal, page_refusal, page_extra}
 use Rattle.snp_model.specs.FirmwareStep.{lock_refusal}
-use Rattle.snp_model.specs.HeldLocks.{PageTest, validate_test, adjust_test}
+use Rattle.snp_model.specs.HeldLocks.{validate_test, adjust_test}
 use Rattle.snp_model.specs.Locks.{range_holder}
 use Rattle.snp_model.specs.RmpUpdate.{in_use_or, is_bad_update, update_range_refusal, update_refusal, is_bad_smash, smash_page_refusal, smash_refusal}
 use Rattle.snp_model.specs.State.{Page, Context}

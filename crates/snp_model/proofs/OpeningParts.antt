@@ -1,10 +1,8 @@
 -- At the opening of a valid scenario nothing is locked and nothing is in hand, and each frame has its shape.
-use Rattle.std.proofs.Common.{◌≡◌, ◌≢◌, ℕ, zero, suc, ◌+◌, ◌-◌, ◌*◌, ◌^◌, ◌<◌, ◌≤◌, true, false, Bool, eqb, replicate, List, [], ◌∷◌, length, map, get_or, set, slice_get, Option, Some, None, refl, sym, ap, ◌∙◌, subst, arith}
+use Rattle.std.proofs.Common.{◌≡◌, ℕ, zero, suc, ◌-◌, ◌^◌, ◌<◌, true, false, Bool, eqb, replicate, List, [], ◌∷◌, length, map, get_or, set, slice_get, Some, refl, sym, ap, ◌∙◌, subst, arith}
 use Rattle.std.specs.List.{AllByRecursion}
 use Rattle.std.proofs.lemmas.Bool.{cond_both, true≢false}
 use Rattle.std.proofs.lemmas.Bool.Decides.{nat_tests}
-use Rattle.std.proofs.lemmas.List.{get_or-set_same, get_or-set_other}
-use Rattle.snp_model.specs.declared.command.Command.{Command}
 use Rattle.snp_model.specs.declared.entry.Kind.TheVariants as kinds
 use Rattle.snp_model.specs.declared.entry.PageSize.{PageSize}
 use Rattle.snp_model.specs.declared.entry.PageSize.TheVariants.{Small, Large}
@@ -20,19 +18,17 @@ use Rattle.snp_model.specs.declared.scenario.Role.TheVariants.{Cpu, Host, Firmwa
 use Rattle.snp_model.specs.declared.scenario.Scenario.{Scenario}
 use Rattle.snp_model.specs.declared.scenario.WordSpec.{WordSpec}
 use Rattle.snp_model.specs.Facts.{free_entry, frames_in}
-use Rattle.snp_model.specs.HeldLocks.{AreExclusive, AreItemLocks, AreTested, HasThroughout, StaysAs, StaysLocked, AreLocked}
+use Rattle.snp_model.specs.HeldLocks.{AreItemLocks, AreTested, HasThroughout, AreLocked}
 use Rattle.snp_model.specs.Locks.{in_range, locks_frame, locks_context}
 use Rattle.snp_model.specs.MadePages.{AreMade}
-use Rattle.snp_model.specs.Opening.{asid_of, page_facts, with_page, facts_from, with_word_spec, words_from, opening_context, opening_part, opening}
+use Rattle.snp_model.specs.Opening.{page_facts, with_page, facts_from, with_word_spec, words_from, opening_context, opening_part, opening}
 use Rattle.snp_model.specs.Past.{Past}
-use Rattle.snp_model.specs.Run.{IsDefinedFrom, state_from}
-use Rattle.snp_model.specs.Shapes.{AreInRange, AreFactsOf, IsFirmwares, IsNobodys, AreShaped, HasAsid}
+use Rattle.snp_model.specs.Shapes.{AreInRange, AreFactsOf, AreShaped, HasAsid}
 use Rattle.snp_model.specs.ScenarioLines.{frames_of}
-use Rattle.snp_model.specs.Sound.{Pairwise, IsGuest, IsPage, IsWord, IsSound}
+use Rattle.snp_model.specs.Sound.{IsGuest, IsPage, IsWord, IsSound}
 use Rattle.snp_model.specs.State.{Contents, Computed, ActorPart, State, Standing, nothing_taken, idle_part, part_of, zero_words}
-use Rattle.snp_model.specs.Step.{after, line_at}
-use Rattle.snp_model.specs.Uniqueness.{IsFull}
-use Rattle.snp_model.proofs.OpeningLaws.{page_or_before, zero_length, opening_whole, opening_asid}
+use Rattle.snp_model.specs.Step.{line_at}
+use Rattle.snp_model.proofs.OpeningLaws.{page_or_before, opening_whole, opening_asid}
 
 -- an actor has taken nothing
 parts_idle : (actors : List Actor) (k : ℕ) → (get_or (map opening_part actors) k idle_part).standing ≡ nothing_taken
@@ -89,14 +85,14 @@ first_locked locks actor m (next ∷ others) has = has.0
 pub opening_locked : (c : Scenario) → AreLocked (opening c)
 opening_locked c = record {
   exclusive = record {
-      frames = λ frame one other a b locked also. absurd (frame_unlocked frame (part_of (opening c) one) (part_idle c one) locked);
-      contexts = λ guest one other a b locked also. absurd (context_unlocked guest (part_of (opening c) one) (part_idle c one) locked);
-    };
+    frames = λ frame one other a b locked also. absurd (frame_unlocked frame (part_of (opening c) one) (part_idle c one) locked);
+    contexts = λ guest one other a b locked also. absurd (context_unlocked guest (part_of (opening c) one) (part_idle c one) locked);
+  };
   tested = λ actor. idle_tested (opening c) (part_of (opening c) actor) (part_idle c actor);
   stays = record {
-      pages = λ actor frame schedule is has. absurd (frame_unlocked frame (part_of (opening c) actor) (part_idle c actor) (first_locked (locks_frame frame) actor (opening c) schedule has));
-      contexts = λ actor guest schedule is has. absurd (context_unlocked guest (part_of (opening c) actor) (part_idle c actor) (first_locked (locks_context guest) actor (opening c) schedule has));
-    };
+    pages = λ actor frame schedule is has. absurd (frame_unlocked frame (part_of (opening c) actor) (part_idle c actor) (first_locked (locks_frame frame) actor (opening c) schedule has));
+    contexts = λ actor guest schedule is has. absurd (context_unlocked guest (part_of (opening c) actor) (part_idle c actor) (first_locked (locks_context guest) actor (opening c) schedule has));
+  };
 }
 
 -- nothing is in hand
@@ -138,12 +134,18 @@ page_plain : (frames : ℕ) (guests : List GuestSpec) (page : PageSpec) (place :
 unfolding page_facts
 page_plain frames guests page place low are is =
     let some = asid_some guests (page.guest - 1) are (let low = is.guest_some in let high = is.guest_most in omega arith) in
-    record { owned = λ none. absurd (let h = none in omega arith); plain = refl; size_is = is.size; free = λ unassigned. absurd (cc); ranges = record {
+    record {
+      owned = λ none. absurd (let h = none in omega arith);
+      plain = refl;
+      size_is = is.size;
+      free = λ unassigned. absurd (cc);
+      ranges = record {
         gpn = let high = is.gpn in omega arith;
         asid = asid_below guests (page.guest - 1) are;
         perms_count = ap suc is.perms_three;
         perms = λ index. below_byte (15 ∷ page.perms) index (omega arith, is.perms);
-      } }
+      };
+    }
 
 near : (base : ℕ) (size : PageSize) (frame : ℕ) → in_range base (frames_in size) frame ≡ true → frame - base < 2 ^ 32
 near base Small frame inside = grind (arith, nat_tests, inside)
@@ -207,7 +209,7 @@ pub opening_shaped : (c : Scenario) → IsSound c → AreShaped (opening c)
 unfolding opening
 opening_shaped c sound =
     let plain : ((f : ℕ) → IsPlainFrame (facts_from c.guests (λ _. free_entry) c.pages f)) =
-      facts_plain (frames_of c) c.guests c.pages (λ _. free_entry) sound.guests sound.pages (λ f. free_plain) in
+    facts_plain (frames_of c) c.guests c.pages (λ _. free_entry) sound.guests sound.pages (λ f. free_plain) in
     record {
       facts = λ frame. plain_facts (facts_from c.guests (λ _. free_entry) c.pages frame) (plain frame);
       whole = λ frame large. absurd (small_large _ (plain frame).size_is large);

@@ -23,7 +23,7 @@ use Rattle.snp_model.specs.Locks.{page_lock, locks_frame, locks_context}
 use Rattle.snp_model.specs.Opening.{asid_of}
 use Rattle.snp_model.specs.RmpUpdate.{update_refusal, update_lock, smash_refusal}
 use Rattle.snp_model.specs.Run.{IsDefinedFrom, state_from}
-use Rattle.snp_model.specs.State.{Page, Context, Contents, PageLock, Standing, nothing_taken, ActorPart, State, part_of}
+use Rattle.snp_model.specs.State.{Page, Contents, PageLock, Standing, nothing_taken, ActorPart, State, part_of}
 use Rattle.snp_model.specs.Step.{after, line_at}
 use Rattle.snp_model.specs.Validation.{validate_refusal, adjust_refusal}
 use Rattle.snp_model.specs.Walking.{Processor, need_after}
