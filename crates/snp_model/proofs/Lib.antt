@@ -14,6 +14,7 @@ pub mod MetadataLaws
 pub mod MoveLocality
 pub mod NestedReadsLaws
 pub mod OpenAttemptsLaws
+pub mod OpeningInvariant
 pub mod OpeningLaws
 pub mod OpeningParts
 pub mod OrderedLaws

@@ -226,7 +226,7 @@ free_plain : free_entry.kind ≡ kinds.Plain
 unfolding free_entry
 free_plain = refl
 
-opening_plain : (guests : List GuestSpec) (lines : List PageSpec) (f : ℕ) → (facts_from guests (λ _. free_entry) lines f).kind ≡ kinds.Plain
+pub opening_plain : (guests : List GuestSpec) (lines : List PageSpec) (f : ℕ) → (facts_from guests (λ _. free_entry) lines f).kind ≡ kinds.Plain
 opening_plain guests lines f = facts_plain guests lines (λ _. free_entry) (λ _. free_plain) f
 
 pub opening_fits : (guests : List GuestSpec) (lines : List PageSpec) (words : ℕ → List ℕ) → AreFit (pages_with (facts_from guests (λ _. free_entry) lines) words)
@@ -234,15 +234,15 @@ opening_fits guests lines words f =
     record { assigned = λ other. absurd (other (opening_plain guests lines f)); immutable = λ other. absurd (other (opening_plain guests lines f)) }
 
 -- and no entry is live
-no_root : (spec : Option GuestSpec) → (opening_context spec).root ≡ None
+pub no_root : (spec : Option GuestSpec) → (opening_context spec).root ≡ None
 unfolding opening_context
 no_root None = refl
 no_root (Some spec) = refl
 
-some_none : (entry : MetaEntry) (root : Option MetaEntry) → root ≡ Some entry → root ≡ None → ⊥
+pub some_none : (entry : MetaEntry) (root : Option MetaEntry) → root ≡ Some entry → root ≡ None → ⊥
 some_none entry root a b = cc
 
-plain_metadata : (kind : Kind) → kind ≡ kinds.Metadata → kind ≡ kinds.Plain → ⊥
+pub plain_metadata : (kind : Kind) → kind ≡ kinds.Metadata → kind ≡ kinds.Plain → ⊥
 plain_metadata kind a b = cc
 
 pub opening_dead : (guests : List GuestSpec) (guest : ℕ) (lines : List PageSpec) (words : ℕ → List ℕ) (asid : ℕ) (archive : Archive)
