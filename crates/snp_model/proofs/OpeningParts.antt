@@ -20,6 +20,7 @@ use Rattle.snp_model.specs.declared.scenario.WordSpec.{WordSpec}
 use Rattle.snp_model.specs.Facts.{free_entry, frames_in}
 use Rattle.snp_model.specs.HeldLocks.{AreItemLocks, AreTested, HasThroughout, AreLocked}
 use Rattle.snp_model.specs.Locks.{in_range, locks_frame, locks_context}
+use Rattle.snp_model.specs.Metadata.{AreBytes}
 use Rattle.snp_model.specs.MadePages.{AreMade}
 use Rattle.snp_model.specs.Opening.{page_facts, with_page, facts_from, with_word_spec, words_from, opening_context, opening_part, opening}
 use Rattle.snp_model.specs.Past.{Past}
@@ -205,6 +206,12 @@ opening_counter [] k are = omega arith
 opening_counter (guest ∷ guests) zero are = are.0.iv
 opening_counter (guest ∷ guests) (suc k) are = opening_counter guests k are.1
 
+opening_key : (guests : List GuestSpec) (k : ℕ) → AllByRecursion IsGuest guests → AreBytes (opening_context (slice_get guests k)).key
+unfolding opening_context
+opening_key [] k are = λ i. omega arith
+opening_key (guest ∷ guests) zero are = are.0.key
+opening_key (guest ∷ guests) (suc k) are = opening_key guests k are.1
+
 pub opening_shaped : (c : Scenario) → IsSound c → AreShaped (opening c)
 unfolding opening
 opening_shaped c sound =
@@ -216,5 +223,5 @@ opening_shaped c sound =
       words = λ frame. record { whole = opening_whole c.words frame; fits = λ index. words_fit (frames_of c) c.words (λ _. zero_words) sound.words (λ _ k. zeros_fit k) frame index };
       have_asids = guests_have c.guests sound.guests;
       asids_differ = sound.asids_differ;
-      contexts = λ guest. record { asid_is = opening_asid c.guests guest; counter = opening_counter c.guests (guest - 1) sound.guests };
+      contexts = λ guest. record { asid_is = opening_asid c.guests guest; counter = opening_counter c.guests (guest - 1) sound.guests; key = opening_key c.guests (guest - 1) sound.guests };
     }

@@ -1,13 +1,13 @@
 -- A scenario that lines can make is sound: each line keeps the bounds.
-use Rattle.std.proofs.Common.{◌≡◌, ℕ, zero, suc, ◌+◌, ◌*◌, ◌%◌, ◌^◌, ◌<◌, ◌≤◌, ◌⊎◌, Bool, true, false, cond, List, [], ◌∷◌, ◌++◌, length, Result, Ok, Err, Option, Some, None, refl, sym, ap, ◌∙◌, subst, arith, inl, inr, ⊎_elim}
+use Rattle.std.proofs.Common.{◌≡◌, ℕ, zero, suc, ◌+◌, ◌*◌, ◌%◌, ◌^◌, ◌<◌, ◌≤◌, ◌⊎◌, Bool, true, false, cond, List, [], ◌∷◌, ◌++◌, length, map, get_or, Result, Ok, Err, Option, Some, None, refl, sym, ap, ◌∙◌, subst, arith, inl, inr, ⊎_elim}
 use Rattle.std.proofs.lemmas.List.{length-append, length-replicate, length-take-le}
-use Rattle.std.proofs.lemmas.Bool.{cond_both}
+use Rattle.std.proofs.lemmas.Bool.{cond_both, and_parts}
 use Rattle.std.proofs.lemmas.Bool.Decides.{nat_tests}
 use Rattle.snp_model.specs.declared.reading.Reason.TheVariants.{Form, Repeat, Guest, Range}
 use Rattle.snp_model.specs.declared.entry.PageSize.{PageSize}
 use Rattle.snp_model.specs.declared.entry.PageSize.TheVariants.{Small}
 use Rattle.std.specs.Prelude.{codes, bytes_eq, take, drop, replicate, if◌then◌else◌, ◌-◌, not, ◌==◌, ◌&&◌, nat_le, nat_lt, slice_get}
-use Rattle.std.specs.List.{AllByRecursion, list_any}
+use Rattle.std.specs.List.{AllByRecursion, list_any, list_all, range_with_len}
 use Rattle.snp_model.specs.declared.reading.Reason.{Reason}
 use Rattle.snp_model.specs.declared.item.Item.{Item}
 use Rattle.snp_model.specs.declared.item.Item.TheVariants.{Access, Skip}
@@ -27,12 +27,13 @@ use Rattle.snp_model.specs.declared.scenario.Turn.{Turn}
 use Rattle.snp_model.specs.declared.scenario.WordSpec.{WordSpec}
 use Rattle.snp_model.specs.Attempts.{attempts_of, actors_attempts, script_attempts}
 use Rattle.snp_model.specs.ItemLines.{once, address_word, load_row, store_row, swap_row, cas_row, xor_row, skip_test, skip_row, skip_value_row, skip_item, access_item, item_words}
-use Rattle.snp_model.specs.Lines.{◌>>=◌, ◌>>◌, cut_at, decimal, decimal_of, hex_of, number_of, value_after, in_word, is_decimal, is_hex, is_prefixed, or_reason, is_row, is_plain, words_of, require, word, fixed, number, ranged, below, multiple}
+use Rattle.snp_model.specs.Lines.{◌>>=◌, ◌>>◌, cut_at, decimal, decimal_of, hex_of, number_of, value_after, digit_value, is_hex_digit, in_word, is_decimal, is_hex, is_prefixed, or_reason, is_row, is_plain, words_of, require, word, fixed, number, ranged, below, multiple}
 use Rattle.snp_model.specs.declared.reading.Quantity.{Quantity}
 use Rattle.snp_model.specs.declared.reading.Quantity.TheVariants as quantities
 use Rattle.snp_model.specs.Reading.{Made, nothing, reading, closed, Fault, refused, is_passed_over, turns_spell, order_of, by_rule, within, fit, fit_line, fit_words, add_regions, add_guest, add_page, add_word, add_actor, add_line, add_item_of, add_item, add_order, add_words, turns_count, Makes, Valid}
-use Rattle.snp_model.specs.ScenarioLines.{frames_of, regions_row, turn_from, turn_parts, turn_of, turns_after, is_order_row, order_row, version_of, version_row, first_scenario, has_five_levels, tables_at, has_no, before_pages, before_words, before_actors, before_orders, idle, opening, opened_of, next_number, page_size, guest_row, page_row, word_row, cpu_row, tables_row, host_row, with_line, has_asid, is_opened, is_declared, apart, collide, key_of, validity}
+use Rattle.snp_model.specs.ScenarioLines.{frames_of, regions_row, turn_from, turn_parts, turn_of, turns_after, is_order_row, order_row, version_of, version_row, first_scenario, has_five_levels, tables_at, has_no, before_pages, before_words, before_actors, before_orders, idle, opening, opened_of, next_number, page_size, guest_row, page_row, word_row, cpu_row, tables_row, host_row, with_line, has_asid, is_opened, is_declared, apart, collide, key_byte, key_of, validity}
 use Rattle.snp_model.specs.Limits.{most}
+use Rattle.snp_model.specs.Metadata.{AreBytes}
 use Rattle.snp_model.specs.Bounds.{IsPaging, IsCpu, IsRole, IsSkip, IsItemOf, IsLineOf}
 use Rattle.snp_model.specs.Sound.{Pairwise, IsGuest, AsidsDiffer, IsPage, FramesDiffer, GpnsDiffer, IsWord, IsActor, IsTurn, IsSound}
 
@@ -199,19 +200,47 @@ opening_ok : (w : List ℕ) (opened : Bool) → opening w ≡ Ok opened → open
 unfolding opening
 opening_ok w opened h = sym (guard_ok (bytes_eq w (codes "opened")) true opened _ h).1
 
+-- the bytes of a key
+digit_small : (w : List ℕ) (k : ℕ) → list_all is_hex_digit w ≡ true → digit_value (get_or w k 0) < 16
+digit_small [] k hex = omega arith
+digit_small (b ∷ w) zero hex = one_digit b (and_parts (is_hex_digit b) (list_all is_hex_digit w) hex).0
+  where
+    one_digit : (b : ℕ) → is_hex_digit b ≡ true → digit_value b < 16
+    one_digit b hex = grind (arith, nat_tests, hex)
+digit_small (b ∷ w) (suc k) hex = digit_small w k (and_parts (is_hex_digit b) (list_all is_hex_digit w) hex).1
+
+mapped_bytes : (f : ℕ → ℕ) (xs : List ℕ) → ((x : ℕ) → f x < 2 ^ 8) → AreBytes (map f xs)
+mapped_bytes f [] small i = omega arith
+mapped_bytes f (x ∷ xs) small zero = small x
+mapped_bytes f (x ∷ xs) small (suc i) = mapped_bytes f xs small i
+
+key_byte_small : (w : List ℕ) (k : ℕ) → list_all is_hex_digit w ≡ true → key_byte w k < 2 ^ 8
+key_byte_small w k hex =
+    let high = digit_small w (2 * k) hex in
+    let low = digit_small w (2 * k + 1) hex in
+    omega arith
+
+key_ok : (w bytes : List ℕ) → key_of w ≡ Ok bytes → AreBytes bytes
+unfolding key_of
+key_ok w bytes h =
+    let test = (length w == 64) && list_all is_hex_digit w in
+    let one = guard_ok test (map (key_byte w) (range_with_len 0 32)) bytes _ h in
+    let hex = (and_parts (length w == 64) (list_all is_hex_digit w) one.0).1 in
+    subst AreBytes one.1 (mapped_bytes (key_byte w) (range_with_len 0 32) (λ k. key_byte_small w k hex))
+
 guest_chain : (c : Scenario) (next : Result ℕ Reason) (opened : Result Bool Reason) (first : Result (Unit {0}) Reason) (asid : Result ℕ Reason) (second : Result (Unit {0}) Reason) (iv : Result ℕ Reason) (third : Result (Unit {0}) Reason) (key : Result (List ℕ) Reason) (guest : GuestSpec)
-    → ((b : Bool) → opened ≡ Ok b → b ≡ true) → ((n : ℕ) → asid ≡ Ok n → (1 ≤ n) × (n ≤ 1023)) → ((n : ℕ) → iv ≡ Ok n → n < 2 ^ 64)
+    → ((b : Bool) → opened ≡ Ok b → b ≡ true) → ((n : ℕ) → asid ≡ Ok n → (1 ≤ n) × (n ≤ 1023)) → ((n : ℕ) → iv ≡ Ok n → n < 2 ^ 64) → ((bytes : List ℕ) → key ≡ Ok bytes → AreBytes bytes)
     → (next >> (opened >>= (λ (b : Bool). first >> (asid >>= (λ (n : ℕ). second >> (iv >>= (λ (i : ℕ). third >> (key >>= (λ (k : List ℕ). require (not (list_any (has_asid n) c.guests)) Repeat >> Ok (let g : GuestSpec = record { opened = b; asid = n; iv = i; key = k } in g)))))))))) ≡ Ok guest
     → GuestFacts c guest
-guest_chain c (Err e) opened first asid second iv third key guest opens bounds counter h = absurd (cc)
-guest_chain c (Ok n) (Err e) first asid second iv third key guest opens bounds counter h = absurd (cc)
-guest_chain c (Ok n) (Ok b) (Err e) asid second iv third key guest opens bounds counter h = absurd (cc)
-guest_chain c (Ok n) (Ok b) (Ok u) (Err e) second iv third key guest opens bounds counter h = absurd (cc)
-guest_chain c (Ok n) (Ok b) (Ok u) (Ok a) (Err e) iv third key guest opens bounds counter h = absurd (cc)
-guest_chain c (Ok n) (Ok b) (Ok u) (Ok a) (Ok v) (Err e) third key guest opens bounds counter h = absurd (cc)
-guest_chain c (Ok n) (Ok b) (Ok u) (Ok a) (Ok v) (Ok i) (Err e) key guest opens bounds counter h = absurd (cc)
-guest_chain c (Ok n) (Ok b) (Ok u) (Ok a) (Ok v) (Ok i) (Ok w) (Err e) guest opens bounds counter h = absurd (cc)
-guest_chain c (Ok n) (Ok b) (Ok u) (Ok a) (Ok v) (Ok i) (Ok w) (Ok k) guest opens bounds counter h =
+guest_chain c (Err e) opened first asid second iv third key guest opens bounds counter bytes h = absurd (cc)
+guest_chain c (Ok n) (Err e) first asid second iv third key guest opens bounds counter bytes h = absurd (cc)
+guest_chain c (Ok n) (Ok b) (Err e) asid second iv third key guest opens bounds counter bytes h = absurd (cc)
+guest_chain c (Ok n) (Ok b) (Ok u) (Err e) second iv third key guest opens bounds counter bytes h = absurd (cc)
+guest_chain c (Ok n) (Ok b) (Ok u) (Ok a) (Err e) iv third key guest opens bounds counter bytes h = absurd (cc)
+guest_chain c (Ok n) (Ok b) (Ok u) (Ok a) (Ok v) (Err e) third key guest opens bounds counter bytes h = absurd (cc)
+guest_chain c (Ok n) (Ok b) (Ok u) (Ok a) (Ok v) (Ok i) (Err e) key guest opens bounds counter bytes h = absurd (cc)
+guest_chain c (Ok n) (Ok b) (Ok u) (Ok a) (Ok v) (Ok i) (Ok w) (Err e) guest opens bounds counter bytes h = absurd (cc)
+guest_chain c (Ok n) (Ok b) (Ok u) (Ok a) (Ok v) (Ok i) (Ok w) (Ok k) guest opens bounds counter bytes h =
     let made : GuestSpec = record { opened = b; asid = a; iv = i; key = k } in
     let final : Result GuestSpec Reason = Ok made in
     let step = then_ok (require (not (list_any (has_asid a) c.guests)) Repeat) final guest h in
@@ -219,7 +248,7 @@ guest_chain c (Ok n) (Ok b) (Ok u) (Ok a) (Ok v) (Ok i) (Ok w) (Ok k) guest open
     let none : list_any (has_asid a) c.guests ≡ false = let e = require_ok (not (list_any (has_asid a) c.guests)) Repeat step.0 step.1 in grind (arith, nat_tests, e) in
     let bound = bounds a refl in
     subst (GuestFacts c) same (record {
-      is = record { opened = opens b refl; asid_some = omega (arith, bound.0); asid_below = omega (arith, bound.1); iv = counter i refl };
+      is = record { opened = opens b refl; asid_some = omega (arith, bound.0); asid_below = omega (arith, bound.1); iv = counter i refl; key = bytes k refl };
       differs = none_any (has_asid a) (λ (other : GuestSpec). AsidsDiffer other made) c.guests (λ other fails same_asid. absurd (grind (arith, nat_tests, fails, same_asid))) none;
     })
 
@@ -227,7 +256,7 @@ guest_row_ok : (c : Scenario) (ws : List (List ℕ)) (guest : GuestSpec) → gue
 unfolding guest_row
 guest_row_ok c ws guest h =
     guest_chain c (next_number (length c.guests) (word ws 1)) (opening (word ws 2)) (fixed (word ws 3) (codes "asid")) (ranged 1 1023 (word ws 4)) (fixed (word ws 5) (codes "iv")) (number (word ws 6)) (fixed (word ws 7) (codes "key")) (key_of (word ws 8)) guest
-    (λ b is. opening_ok (word ws 2) b is) (λ n is. ranged_ok 1 1023 (word ws 4) n is) (λ n is. number_ok (word ws 6) n is) h
+    (λ b is. opening_ok (word ws 2) b is) (λ n is. ranged_ok 1 1023 (word ws 4) n is) (λ n is. number_ok (word ws 6) n is) (λ bytes is. key_ok (word ws 8) bytes is) h
 
 -- the guests that stand are opened, so an opened one is declared
 opened_declared : (guests : List GuestSpec) (guest : ℕ) → is_opened guests guest ≡ true → (0 < guest) × (guest ≤ length guests)

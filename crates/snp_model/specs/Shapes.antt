@@ -56,10 +56,11 @@ pub record HasAsid (guest : GuestSpec) : Type 0 where
   pub some : 0 < guest.asid
   pub fits : guest.asid < 2 ^ 16
 
--- a guest's context has its ASID, and a counter of 64 bits
+-- a guest's context has its ASID, a counter of 64 bits, and a key of bytes
 pub record IsContextFor (guests : List GuestSpec) (guest : ℕ) (context : Context) : Type 0 where
   pub asid_is : context.asid ≡ asid_of guests guest
   pub counter : context.iv < 2 ^ 64
+  pub key : AreBytes context.key
 
 -- so in a state
 pub record AreShaped (m : State) : Type 0 where

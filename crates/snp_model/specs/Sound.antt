@@ -10,6 +10,7 @@ use Rattle.snp_model.specs.declared.scenario.Turn.{Turn}
 use Rattle.snp_model.specs.declared.scenario.Actor.{Actor}
 use Rattle.snp_model.specs.declared.reading.Quantity.TheVariants.{Regions, Guests, Actors, Attempts, Order}
 use Rattle.snp_model.specs.Bounds.{IsRole, IsLineOf}
+use Rattle.snp_model.specs.Metadata.{AreBytes}
 use Rattle.snp_model.specs.ScenarioLines.{frames_of}
 use Rattle.snp_model.specs.Attempts.{attempts_of}
 use Rattle.snp_model.specs.Limits.{most}
@@ -26,6 +27,7 @@ pub record IsGuest (guest : GuestSpec) : Type 0 where
   pub asid_some : 0 < guest.asid
   pub asid_below : guest.asid < 1024
   pub iv : guest.iv < 2 ^ 64
+  pub key : AreBytes guest.key
 
 abbrev pub AsidsDiffer : GuestSpec → GuestSpec → Type 0
 AsidsDiffer guest other = guest.asid ≢ other.asid
