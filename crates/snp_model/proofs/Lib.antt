@@ -9,6 +9,7 @@ pub mod FirmwareLocked
 pub mod EntriesLaws
 pub mod GuestMemoryLaws
 pub mod GuestReadsLaws
+pub mod HeldLocksLaws
 pub mod InstructionLocality
 pub mod LocalityLaws
 pub mod LockLaws
@@ -20,7 +21,9 @@ pub mod MetadataLaws
 pub mod MoveLocality
 pub mod NestedReadsLaws
 pub mod OpenAttemptsLaws
+pub mod OpeningInvariant
 pub mod OpeningLaws
+pub mod OpeningParts
 pub mod OrderedLaws
 pub mod PageBytesLaws
 pub mod RangeLaws

@@ -41,7 +41,7 @@ pub record RangesApart (page other : PageSpec) : Type 0 where
   pub apart : (q : ℕ) → page.guest ≡ other.guest → in_range page.gpn (frames_in page.size) q ≡ true → in_range other.gpn (frames_in other.size) q ≡ true → ⊥
 
 -- the facts of a frame with one more page: the page's, or those before
-page_or_before : (guests : List GuestSpec) (page : PageSpec) (facts : ℕ → RmpEntry) (f : ℕ) (P : RmpEntry → Type 0)
+pub page_or_before : (guests : List GuestSpec) (page : PageSpec) (facts : ℕ → RmpEntry) (f : ℕ) (P : RmpEntry → Type 0)
     → (in_range page.frame (frames_in page.size) f ≡ true → P (page_facts guests page (f - page.frame))) → P (facts f) → P (with_page guests page facts f)
 page_or_before guests page facts f P inside otherwise = cond_both (in_range page.frame (frames_in page.size) f) _ _ P inside (λ _. otherwise)
 
@@ -226,7 +226,7 @@ free_plain : free_entry.kind ≡ kinds.Plain
 unfolding free_entry
 free_plain = refl
 
-opening_plain : (guests : List GuestSpec) (lines : List PageSpec) (f : ℕ) → (facts_from guests (λ _. free_entry) lines f).kind ≡ kinds.Plain
+pub opening_plain : (guests : List GuestSpec) (lines : List PageSpec) (f : ℕ) → (facts_from guests (λ _. free_entry) lines f).kind ≡ kinds.Plain
 opening_plain guests lines f = facts_plain guests lines (λ _. free_entry) (λ _. free_plain) f
 
 pub opening_fits : (guests : List GuestSpec) (lines : List PageSpec) (words : ℕ → List ℕ) → AreFit (pages_with (facts_from guests (λ _. free_entry) lines) words)
@@ -234,15 +234,15 @@ opening_fits guests lines words f =
     record { assigned = λ other. absurd (other (opening_plain guests lines f)); immutable = λ other. absurd (other (opening_plain guests lines f)) }
 
 -- and no entry is live
-no_root : (spec : Option GuestSpec) → (opening_context spec).root ≡ None
+pub no_root : (spec : Option GuestSpec) → (opening_context spec).root ≡ None
 unfolding opening_context
 no_root None = refl
 no_root (Some spec) = refl
 
-some_none : (entry : MetaEntry) (root : Option MetaEntry) → root ≡ Some entry → root ≡ None → ⊥
+pub some_none : (entry : MetaEntry) (root : Option MetaEntry) → root ≡ Some entry → root ≡ None → ⊥
 some_none entry root a b = cc
 
-plain_metadata : (kind : Kind) → kind ≡ kinds.Metadata → kind ≡ kinds.Plain → ⊥
+pub plain_metadata : (kind : Kind) → kind ≡ kinds.Metadata → kind ≡ kinds.Plain → ⊥
 plain_metadata kind a b = cc
 
 pub opening_dead : (guests : List GuestSpec) (guest : ℕ) (lines : List PageSpec) (words : ℕ → List ℕ) (asid : ℕ) (archive : Archive)
@@ -252,7 +252,7 @@ opening_dead guests guest lines words asid archive InRoot entry live = some_none
 opening_dead guests guest lines words asid archive (Under s number) entry live = opening_dead guests guest lines words asid archive s live.0 live.1
 
 -- every frame has its 512 words
-zero_length : length zero_words ≡ 512
+pub zero_length : length zero_words ≡ 512
 unfolding zero_words
 zero_length = refl
 

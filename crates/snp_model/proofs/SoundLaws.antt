@@ -1,12 +1,13 @@
 -- A scenario that lines can make is sound: each line keeps the bounds.
-use Rattle.std.proofs.Common.{◌≡◌, ℕ, zero, suc, ◌+◌, ◌*◌, ◌%◌, ◌^◌, ◌<◌, ◌≤◌, ◌⊎◌, Bool, true, false, cond, List, [], ◌∷◌, ◌++◌, length, Result, Ok, Err, Option, Some, None, refl, sym, ap, ◌∙◌, subst, arith, inl, inr, ⊎_elim}
+use Rattle.std.proofs.Common.{◌≡◌, ℕ, zero, suc, ◌+◌, ◌*◌, ◌%◌, ◌^◌, ◌<◌, ◌≤◌, ◌⊎◌, Bool, true, false, cond, List, [], ◌∷◌, ◌++◌, length, map, get_or, Result, Ok, Err, Option, Some, None, refl, sym, ap, ◌∙◌, subst, arith, inl, inr, ⊎_elim}
 use Rattle.std.proofs.lemmas.List.{length-append, length-replicate, length-take-le}
+use Rattle.std.proofs.lemmas.Bool.{cond_both, and_parts}
 use Rattle.std.proofs.lemmas.Bool.Decides.{nat_tests}
 use Rattle.snp_model.specs.declared.reading.Reason.TheVariants.{Form, Repeat, Guest, Range}
 use Rattle.snp_model.specs.declared.entry.PageSize.{PageSize}
 use Rattle.snp_model.specs.declared.entry.PageSize.TheVariants.{Small}
 use Rattle.std.specs.Prelude.{codes, bytes_eq, take, drop, replicate, if◌then◌else◌, ◌-◌, not, ◌==◌, ◌&&◌, nat_le, nat_lt, slice_get}
-use Rattle.std.specs.List.{AllByRecursion, list_any}
+use Rattle.std.specs.List.{AllByRecursion, list_any, list_all, range_with_len}
 use Rattle.snp_model.specs.declared.reading.Reason.{Reason}
 use Rattle.snp_model.specs.declared.item.Item.{Item}
 use Rattle.snp_model.specs.declared.item.Item.TheVariants.{Access, Skip}
@@ -26,12 +27,13 @@ use Rattle.snp_model.specs.declared.scenario.Turn.{Turn}
 use Rattle.snp_model.specs.declared.scenario.WordSpec.{WordSpec}
 use Rattle.snp_model.specs.Attempts.{attempts_of, actors_attempts, script_attempts}
 use Rattle.snp_model.specs.ItemLines.{once, address_word, load_row, store_row, swap_row, cas_row, xor_row, skip_test, skip_row, skip_value_row, skip_item, access_item, item_words}
-use Rattle.snp_model.specs.Lines.{◌>>=◌, ◌>>◌, cut_at, decimal, is_row, is_plain, words_of, require, word, fixed, number, ranged, below, multiple}
+use Rattle.snp_model.specs.Lines.{◌>>=◌, ◌>>◌, cut_at, decimal, decimal_of, hex_of, number_of, value_after, digit_value, is_hex_digit, in_word, is_decimal, is_hex, is_prefixed, or_reason, is_row, is_plain, words_of, require, word, fixed, number, ranged, below, multiple}
 use Rattle.snp_model.specs.declared.reading.Quantity.{Quantity}
 use Rattle.snp_model.specs.declared.reading.Quantity.TheVariants as quantities
 use Rattle.snp_model.specs.Reading.{Made, nothing, reading, closed, Fault, refused, is_passed_over, turns_spell, order_of, by_rule, within, fit, fit_line, fit_words, add_regions, add_guest, add_page, add_word, add_actor, add_line, add_item_of, add_item, add_order, add_words, turns_count, Makes, Valid}
-use Rattle.snp_model.specs.ScenarioLines.{frames_of, regions_row, turn_from, turn_parts, turn_of, turns_after, is_order_row, order_row, version_of, version_row, first_scenario, has_five_levels, tables_at, has_no, before_pages, before_words, before_actors, before_orders, idle, opening, opened_of, next_number, page_size, guest_row, page_row, word_row, cpu_row, tables_row, host_row, with_line, has_asid, is_opened, is_declared, apart, collide, key_of, validity}
+use Rattle.snp_model.specs.ScenarioLines.{frames_of, regions_row, turn_from, turn_parts, turn_of, turns_after, is_order_row, order_row, version_of, version_row, first_scenario, has_five_levels, tables_at, has_no, before_pages, before_words, before_actors, before_orders, idle, opening, opened_of, next_number, page_size, guest_row, page_row, word_row, cpu_row, tables_row, host_row, with_line, has_asid, is_opened, is_declared, apart, collide, key_byte, key_of, validity}
 use Rattle.snp_model.specs.Limits.{most}
+use Rattle.snp_model.specs.Metadata.{AreBytes}
 use Rattle.snp_model.specs.Bounds.{IsPaging, IsCpu, IsRole, IsSkip, IsItemOf, IsLineOf}
 use Rattle.snp_model.specs.Sound.{Pairwise, IsGuest, AsidsDiffer, IsPage, FramesDiffer, GpnsDiffer, IsWord, IsActor, IsTurn, IsSound}
 
@@ -62,6 +64,37 @@ below_ok end w n h =
     let step = bind_ok (number w) (λ (k : ℕ). cond (nat_lt k end) (Ok k) (Err _)) n h in
     let one = guard_ok (nat_lt step.0 end) step.0 n _ step.2 in
     grind (arith, nat_tests, one.0, one.1)
+
+-- a number is below 2^64
+guarded : (b : Bool) (o : Option ℕ) (n : ℕ) → cond b o None ≡ Some n → o ≡ Some n
+guarded true o n h = h
+guarded false o n h = absurd (cc)
+
+in_word_ok : (k n : ℕ) → in_word k ≡ Some n → n < 2 ^ 64
+in_word_ok k n h =
+    cond_both (nat_lt k (2 ^ 64)) _ _ (λ (o : Option ℕ). o ≡ Some n → n < 2 ^ 64)
+    (λ small is. let same : k ≡ n = cc in grind (arith, nat_tests, small, same)) (λ large is. absurd (cc)) h
+
+decimal_ok : (digits : List ℕ) (n : ℕ) → decimal_of digits ≡ Some n → n < 2 ^ 64
+unfolding decimal_of
+decimal_ok digits n h = in_word_ok (value_after 10 0 digits) n (guarded (is_decimal digits) (in_word (value_after 10 0 digits)) n h)
+
+hex_ok : (digits : List ℕ) (n : ℕ) → hex_of digits ≡ Some n → n < 2 ^ 64
+unfolding hex_of
+hex_ok digits n h = in_word_ok (value_after 16 0 digits) n (guarded (is_hex digits) (in_word (value_after 16 0 digits)) n h)
+
+number_of_ok : (w : List ℕ) (n : ℕ) → number_of w ≡ Some n → n < 2 ^ 64
+unfolding number_of
+number_of_ok w n h =
+    cond_both (is_prefixed w) _ _ (λ (o : Option ℕ). o ≡ Some n → n < 2 ^ 64) (λ _. hex_ok (drop 2 w) n) (λ _. decimal_ok w n) h
+
+reason_ok : (o : Option ℕ) (reason : Reason) (n : ℕ) → or_reason o reason ≡ Ok n → o ≡ Some n
+reason_ok (Some k) reason n h = cc
+reason_ok None reason n h = absurd (cc)
+
+number_ok : (w : List ℕ) (n : ℕ) → number w ≡ Ok n → n < 2 ^ 64
+unfolding number
+number_ok w n h = number_of_ok w n (reason_ok (number_of w) _ n h)
 
 ranged_ok : (low high : ℕ) (w : List ℕ) (n : ℕ) → ranged low high w ≡ Ok n → (low ≤ n) × (n ≤ high)
 unfolding ranged
@@ -136,7 +169,7 @@ page_more frames frames' guests guests' more_frames more_guests page is =
     record { frame = let h = is.frame in omega arith; guest_some = is.guest_some; guest_most = let h = is.guest_most in omega arith; gpn = is.gpn; size = is.size; perms_three = is.perms_three; perms = is.perms }
 
 word_more : (frames frames' : ℕ) → frames ≤ frames' → (word : WordSpec) → IsWord frames word → IsWord frames' word
-word_more frames frames' more word is = record { frame = let h = is.frame in omega arith; index = is.index }
+word_more frames frames' more word is = record { frame = let h = is.frame in omega arith; index = is.index; value = is.value }
 
 role_more : (frames frames' guests guests' : ℕ) → frames ≤ frames' → guests ≤ guests' → (role : Role) → IsRole frames guests role → IsRole frames' guests' role
 role_more frames frames' guests guests' more_frames more_guests (Cpu guest vmpl npt paging) is =
@@ -167,19 +200,47 @@ opening_ok : (w : List ℕ) (opened : Bool) → opening w ≡ Ok opened → open
 unfolding opening
 opening_ok w opened h = sym (guard_ok (bytes_eq w (codes "opened")) true opened _ h).1
 
+-- the bytes of a key
+digit_small : (w : List ℕ) (k : ℕ) → list_all is_hex_digit w ≡ true → digit_value (get_or w k 0) < 16
+digit_small [] k hex = omega arith
+digit_small (b ∷ w) zero hex = one_digit b (and_parts (is_hex_digit b) (list_all is_hex_digit w) hex).0
+  where
+    one_digit : (b : ℕ) → is_hex_digit b ≡ true → digit_value b < 16
+    one_digit b hex = grind (arith, nat_tests, hex)
+digit_small (b ∷ w) (suc k) hex = digit_small w k (and_parts (is_hex_digit b) (list_all is_hex_digit w) hex).1
+
+mapped_bytes : (f : ℕ → ℕ) (xs : List ℕ) → ((x : ℕ) → f x < 2 ^ 8) → AreBytes (map f xs)
+mapped_bytes f [] small i = omega arith
+mapped_bytes f (x ∷ xs) small zero = small x
+mapped_bytes f (x ∷ xs) small (suc i) = mapped_bytes f xs small i
+
+key_byte_small : (w : List ℕ) (k : ℕ) → list_all is_hex_digit w ≡ true → key_byte w k < 2 ^ 8
+key_byte_small w k hex =
+    let high = digit_small w (2 * k) hex in
+    let low = digit_small w (2 * k + 1) hex in
+    omega arith
+
+key_ok : (w bytes : List ℕ) → key_of w ≡ Ok bytes → AreBytes bytes
+unfolding key_of
+key_ok w bytes h =
+    let test = (length w == 64) && list_all is_hex_digit w in
+    let one = guard_ok test (map (key_byte w) (range_with_len 0 32)) bytes _ h in
+    let hex = (and_parts (length w == 64) (list_all is_hex_digit w) one.0).1 in
+    subst AreBytes one.1 (mapped_bytes (key_byte w) (range_with_len 0 32) (λ k. key_byte_small w k hex))
+
 guest_chain : (c : Scenario) (next : Result ℕ Reason) (opened : Result Bool Reason) (first : Result (Unit {0}) Reason) (asid : Result ℕ Reason) (second : Result (Unit {0}) Reason) (iv : Result ℕ Reason) (third : Result (Unit {0}) Reason) (key : Result (List ℕ) Reason) (guest : GuestSpec)
-    → ((b : Bool) → opened ≡ Ok b → b ≡ true) → ((n : ℕ) → asid ≡ Ok n → (1 ≤ n) × (n ≤ 1023))
+    → ((b : Bool) → opened ≡ Ok b → b ≡ true) → ((n : ℕ) → asid ≡ Ok n → (1 ≤ n) × (n ≤ 1023)) → ((n : ℕ) → iv ≡ Ok n → n < 2 ^ 64) → ((bytes : List ℕ) → key ≡ Ok bytes → AreBytes bytes)
     → (next >> (opened >>= (λ (b : Bool). first >> (asid >>= (λ (n : ℕ). second >> (iv >>= (λ (i : ℕ). third >> (key >>= (λ (k : List ℕ). require (not (list_any (has_asid n) c.guests)) Repeat >> Ok (let g : GuestSpec = record { opened = b; asid = n; iv = i; key = k } in g)))))))))) ≡ Ok guest
     → GuestFacts c guest
-guest_chain c (Err e) opened first asid second iv third key guest opens bounds h = absurd (cc)
-guest_chain c (Ok n) (Err e) first asid second iv third key guest opens bounds h = absurd (cc)
-guest_chain c (Ok n) (Ok b) (Err e) asid second iv third key guest opens bounds h = absurd (cc)
-guest_chain c (Ok n) (Ok b) (Ok u) (Err e) second iv third key guest opens bounds h = absurd (cc)
-guest_chain c (Ok n) (Ok b) (Ok u) (Ok a) (Err e) iv third key guest opens bounds h = absurd (cc)
-guest_chain c (Ok n) (Ok b) (Ok u) (Ok a) (Ok v) (Err e) third key guest opens bounds h = absurd (cc)
-guest_chain c (Ok n) (Ok b) (Ok u) (Ok a) (Ok v) (Ok i) (Err e) key guest opens bounds h = absurd (cc)
-guest_chain c (Ok n) (Ok b) (Ok u) (Ok a) (Ok v) (Ok i) (Ok w) (Err e) guest opens bounds h = absurd (cc)
-guest_chain c (Ok n) (Ok b) (Ok u) (Ok a) (Ok v) (Ok i) (Ok w) (Ok k) guest opens bounds h =
+guest_chain c (Err e) opened first asid second iv third key guest opens bounds counter bytes h = absurd (cc)
+guest_chain c (Ok n) (Err e) first asid second iv third key guest opens bounds counter bytes h = absurd (cc)
+guest_chain c (Ok n) (Ok b) (Err e) asid second iv third key guest opens bounds counter bytes h = absurd (cc)
+guest_chain c (Ok n) (Ok b) (Ok u) (Err e) second iv third key guest opens bounds counter bytes h = absurd (cc)
+guest_chain c (Ok n) (Ok b) (Ok u) (Ok a) (Err e) iv third key guest opens bounds counter bytes h = absurd (cc)
+guest_chain c (Ok n) (Ok b) (Ok u) (Ok a) (Ok v) (Err e) third key guest opens bounds counter bytes h = absurd (cc)
+guest_chain c (Ok n) (Ok b) (Ok u) (Ok a) (Ok v) (Ok i) (Err e) key guest opens bounds counter bytes h = absurd (cc)
+guest_chain c (Ok n) (Ok b) (Ok u) (Ok a) (Ok v) (Ok i) (Ok w) (Err e) guest opens bounds counter bytes h = absurd (cc)
+guest_chain c (Ok n) (Ok b) (Ok u) (Ok a) (Ok v) (Ok i) (Ok w) (Ok k) guest opens bounds counter bytes h =
     let made : GuestSpec = record { opened = b; asid = a; iv = i; key = k } in
     let final : Result GuestSpec Reason = Ok made in
     let step = then_ok (require (not (list_any (has_asid a) c.guests)) Repeat) final guest h in
@@ -187,7 +248,7 @@ guest_chain c (Ok n) (Ok b) (Ok u) (Ok a) (Ok v) (Ok i) (Ok w) (Ok k) guest open
     let none : list_any (has_asid a) c.guests ≡ false = let e = require_ok (not (list_any (has_asid a) c.guests)) Repeat step.0 step.1 in grind (arith, nat_tests, e) in
     let bound = bounds a refl in
     subst (GuestFacts c) same (record {
-      is = record { opened = opens b refl; asid_some = omega (arith, bound.0); asid_below = omega (arith, bound.1) };
+      is = record { opened = opens b refl; asid_some = omega (arith, bound.0); asid_below = omega (arith, bound.1); iv = counter i refl; key = bytes k refl };
       differs = none_any (has_asid a) (λ (other : GuestSpec). AsidsDiffer other made) c.guests (λ other fails same_asid. absurd (grind (arith, nat_tests, fails, same_asid))) none;
     })
 
@@ -195,7 +256,7 @@ guest_row_ok : (c : Scenario) (ws : List (List ℕ)) (guest : GuestSpec) → gue
 unfolding guest_row
 guest_row_ok c ws guest h =
     guest_chain c (next_number (length c.guests) (word ws 1)) (opening (word ws 2)) (fixed (word ws 3) (codes "asid")) (ranged 1 1023 (word ws 4)) (fixed (word ws 5) (codes "iv")) (number (word ws 6)) (fixed (word ws 7) (codes "key")) (key_of (word ws 8)) guest
-    (λ b is. opening_ok (word ws 2) b is) (λ n is. ranged_ok 1 1023 (word ws 4) n is) h
+    (λ b is. opening_ok (word ws 2) b is) (λ n is. ranged_ok 1 1023 (word ws 4) n is) (λ n is. number_ok (word ws 6) n is) (λ bytes is. key_ok (word ws 8) bytes is) h
 
 -- the guests that stand are opened, so an opened one is declared
 opened_declared : (guests : List GuestSpec) (guest : ℕ) → is_opened guests guest ≡ true → (0 < guest) × (guest ≤ length guests)
@@ -256,20 +317,20 @@ page_row_ok c ws page h =
     (below_ok _ _) (below_ok _ _) (size_ok _) (below_ok _ _) (below_ok _ _) (below_ok _ _) h
 
 word_chain : (c : Scenario) (frame index value : Result ℕ Reason) (made : WordSpec)
-    → ((n : ℕ) → frame ≡ Ok n → n < frames_of c) → ((n : ℕ) → index ≡ Ok n → n < 512)
+    → ((n : ℕ) → frame ≡ Ok n → n < frames_of c) → ((n : ℕ) → index ≡ Ok n → n < 512) → ((n : ℕ) → value ≡ Ok n → n < 2 ^ 64)
     → (frame >>= (λ (f : ℕ). index >>= (λ (i : ℕ). value >>= (λ (v : ℕ). Ok (let w : WordSpec = record { frame = f; index = i; value = v } in w))))) ≡ Ok made
     → IsWord (frames_of c) made
-word_chain c (Err e) index value made b1 b2 h = absurd (cc)
-word_chain c (Ok f) (Err e) value made b1 b2 h = absurd (cc)
-word_chain c (Ok f) (Ok i) (Err e) made b1 b2 h = absurd (cc)
-word_chain c (Ok f) (Ok i) (Ok v) made b1 b2 h =
+word_chain c (Err e) index value made b1 b2 b3 h = absurd (cc)
+word_chain c (Ok f) (Err e) value made b1 b2 b3 h = absurd (cc)
+word_chain c (Ok f) (Ok i) (Err e) made b1 b2 b3 h = absurd (cc)
+word_chain c (Ok f) (Ok i) (Ok v) made b1 b2 b3 h =
     let word : WordSpec = record { frame = f; index = i; value = v } in
     let same : word ≡ made = cc in
-    subst (IsWord (frames_of c)) same (record { frame = b1 f refl; index = b2 i refl })
+    subst (IsWord (frames_of c)) same (record { frame = b1 f refl; index = b2 i refl; value = b3 v refl })
 
 word_row_ok : (c : Scenario) (ws : List (List ℕ)) (made : WordSpec) → word_row c ws ≡ Ok made → IsWord (frames_of c) made
 unfolding word_row
-word_row_ok c ws made h = word_chain c (below (frames_of c) (word ws 1)) (below 512 (word ws 2)) (number (word ws 3)) made (below_ok _ _) (below_ok _ _) h
+word_row_ok c ws made h = word_chain c (below (frames_of c) (word ws 1)) (below 512 (word ws 2)) (number (word ws 3)) made (below_ok _ _) (below_ok _ _) (number_ok _) h
 
 cpu_chain : (c : Scenario) (next : Result ℕ Reason) (first : Result (Unit {0}) Reason) (guest : Result ℕ Reason) (second : Result (Unit {0}) Reason) (vmpl : Result ℕ Reason) (third : Result (Unit {0}) Reason) (npt : Result ℕ Reason) (fourth : Result (Unit {0}) Reason) (made : Role)
     → ((n : ℕ) → vmpl ≡ Ok n → n < 4) → ((n : ℕ) → npt ≡ Ok n → n < frames_of c)

@@ -1,4 +1,4 @@
--- What the locks of pages and contexts keep in every state: they have one holder each, what their tests asked still holds, and what is locked stays as it is (this project's own).
+-- That the locks of pages and contexts have one holder each, that what their tests asked still holds, and that what is locked stays as it is (this project's own).
 use Rattle.std.specs.Prelude.{◌≡◌, ℕ, ◌+◌, ◌<◌, Bool, true, List, [], ◌∷◌, slice_get, Option, Some, None}
 use Rattle.std.specs.Option.{option_or}
 use Rattle.snp_model.specs.declared.access.Place.{Place}
@@ -23,7 +23,7 @@ use Rattle.snp_model.specs.Locks.{page_lock, locks_frame, locks_context}
 use Rattle.snp_model.specs.Opening.{asid_of}
 use Rattle.snp_model.specs.RmpUpdate.{update_refusal, update_lock, smash_refusal}
 use Rattle.snp_model.specs.Run.{IsDefinedFrom, state_from}
-use Rattle.snp_model.specs.State.{Page, Context, Contents, PageLock, Standing, nothing_taken, ActorPart, State, part_of}
+use Rattle.snp_model.specs.State.{Page, Contents, PageLock, Standing, nothing_taken, ActorPart, State, part_of}
 use Rattle.snp_model.specs.Step.{after, line_at}
 use Rattle.snp_model.specs.Validation.{validate_refusal, adjust_refusal}
 use Rattle.snp_model.specs.Walking.{Processor, need_after}

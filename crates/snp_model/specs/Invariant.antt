@@ -1,4 +1,4 @@
--- What holds in every state of a run for a guest that is disciplined, where no ciphertext meets the tag of another (`Premises`): in seven parts, of which parts 5 and 7 need neither. This project's own.
+-- All that ties a guest's pages to their holders in a state, in seven parts. It is meant of the states of runs in which the guest is disciplined and no ciphertext meets the tag of another (`Premises`); parts 5 and 7 ask for neither. This project's own.
 use Rattle.std.specs.Prelude.{◌≡◌, ℕ, List, slice_index_or, Some}
 use Rattle.snp_model.specs.GuestMemory.{Memory, IsHeld, known}
 use Rattle.snp_model.specs.HeldLocks.{AreLocked}

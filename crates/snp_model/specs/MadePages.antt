@@ -1,4 +1,4 @@
--- What the compute of an open attempt has made, in every state until its commit: what is sealed is what the source has, and what is opened is what was archived under an entry that is still in use (this project's own).
+-- That what the compute of an open attempt has made is still so: what was sealed is the seal of what the source has now, and what was opened is what was archived under an entry that is still in use (this project's own).
 use Rattle.std.specs.Prelude.{◌≡◌, ℕ, ◌<◌, true, List, length, Option, Some, None}
 use Rattle.snp_model.specs.declared.command.Command.{Command}
 use Rattle.snp_model.specs.declared.firmware.MetaEntry.{MetaEntry}

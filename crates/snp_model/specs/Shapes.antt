@@ -1,14 +1,15 @@
--- What holds of the facts and words of each frame in every state: who owns it, what it is used for, and that a page of 2 MB is whole (APM volume 2, 15.36.3; the kinds, and that all of it holds, are this project's own).
-use Rattle.std.specs.Prelude.{◌≡◌, ◌≢◌, ℕ, ◌+◌, ◌/◌, ◌%◌, ◌<◌, true, false, List}
+-- That the facts of each frame go together, that a page of 2 MB is whole, that words are full, and that guests have ASIDs of their own (APM volume 2, 15.36.3; the kinds are this project's own).
+use Rattle.std.specs.Prelude.{◌≡◌, ◌≢◌, ℕ, ◌+◌, ◌/◌, ◌%◌, ◌^◌, ◌<◌, true, false, List, length}
 use Rattle.std.specs.List.{AllByRecursion}
 use Rattle.snp_model.specs.declared.entry.Kind.TheVariants as kinds
 use Rattle.snp_model.specs.declared.entry.PageSize.TheVariants.{Small, Large}
 use Rattle.snp_model.specs.declared.entry.RmpEntry.{RmpEntry}
 use Rattle.snp_model.specs.declared.scenario.GuestSpec.{GuestSpec}
 use Rattle.snp_model.specs.Facts.{page_base}
+use Rattle.snp_model.specs.Metadata.{AreBytes}
 use Rattle.snp_model.specs.Opening.{asid_of}
 use Rattle.snp_model.specs.Sound.{Pairwise, AsidsDiffer}
-use Rattle.snp_model.specs.State.{Pages, Contexts, State}
+use Rattle.snp_model.specs.State.{Pages, Context, State}
 use Rattle.snp_model.specs.Uniqueness.{IsFull}
 
 -- a frame that the firmware has
@@ -22,6 +23,13 @@ pub record IsNobodys (facts : RmpEntry) : Type 0 where
   pub no_guest : facts.asid ≡ 0
   pub size_is : facts.size ≡ Small
 
+-- the numbers of a frame's facts fit in a metadata entry: a page that is opened may get any guest page number of 64 bits
+pub record AreInRange (facts : RmpEntry) : Type 0 where
+  pub gpn : facts.gpn < 2 ^ 64
+  pub asid : facts.asid < 2 ^ 16
+  pub perms_count : length facts.perms ≡ 4
+  pub perms : AreBytes facts.perms
+
 -- the facts of a frame go together
 pub record AreFactsOf (facts : RmpEntry) : Type 0 where
   -- no page without a guest is validated
@@ -30,6 +38,8 @@ pub record AreFactsOf (facts : RmpEntry) : Type 0 where
   pub used : facts.kind ≢ kinds.Plain → IsFirmwares facts
   -- and an unassigned one is nobody's
   pub free : facts.assigned ≡ false → IsNobodys facts
+  -- its numbers are in range
+  pub ranges : AreInRange facts
 
 -- two frames of one page of 2 MB have guest page numbers as far apart as they are, and the same other facts
 pub record AreOfOnePage (pages : Pages) (one other : ℕ) : Type 0 where
@@ -41,19 +51,22 @@ pub record IsWholePage (pages : Pages) (frame : ℕ) : Type 0 where
   pub aligned : (pages (page_base Large frame)).facts.gpn % 512 ≡ 0
   pub together : (other : ℕ) → other / 512 ≡ frame / 512 → AreOfOnePage pages frame other
 
--- a declared guest has an ASID
-abbrev pub HasAsid : GuestSpec → Type 0
-HasAsid guest = 0 < guest.asid
+-- a declared guest has an ASID, which isn't 0
+pub record HasAsid (guest : GuestSpec) : Type 0 where
+  pub some : 0 < guest.asid
+  pub fits : guest.asid < 2 ^ 16
 
--- the ASIDs of the declared guests, and of their contexts
-pub record AreAsids (guests : List GuestSpec) (contexts : Contexts) : Type 0 where
-  pub some : AllByRecursion HasAsid guests
-  pub differ : Pairwise AsidsDiffer guests
-  pub kept : (guest : ℕ) → (contexts guest).asid ≡ asid_of guests guest
+-- a guest's context has its ASID, a counter of 64 bits, and a key of bytes
+pub record IsContextFor (guests : List GuestSpec) (guest : ℕ) (context : Context) : Type 0 where
+  pub asid_is : context.asid ≡ asid_of guests guest
+  pub counter : context.iv < 2 ^ 64
+  pub key : AreBytes context.key
 
 -- so in a state
 pub record AreShaped (m : State) : Type 0 where
   pub facts : (frame : ℕ) → AreFactsOf (m.contents.pages frame).facts
   pub whole : (frame : ℕ) → (m.contents.pages frame).facts.size ≡ Large → IsWholePage m.contents.pages frame
   pub words : (frame : ℕ) → IsFull (m.contents.pages frame).words
-  pub asids : AreAsids m.guests m.contents.contexts
+  pub have_asids : AllByRecursion HasAsid m.guests
+  pub asids_differ : Pairwise AsidsDiffer m.guests
+  pub contexts : (guest : ℕ) → IsContextFor m.guests guest (m.contents.contexts guest)

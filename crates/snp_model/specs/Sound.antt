@@ -10,6 +10,7 @@ use Rattle.snp_model.specs.declared.scenario.Turn.{Turn}
 use Rattle.snp_model.specs.declared.scenario.Actor.{Actor}
 use Rattle.snp_model.specs.declared.reading.Quantity.TheVariants.{Regions, Guests, Actors, Attempts, Order}
 use Rattle.snp_model.specs.Bounds.{IsRole, IsLineOf}
+use Rattle.snp_model.specs.Metadata.{AreBytes}
 use Rattle.snp_model.specs.ScenarioLines.{frames_of}
 use Rattle.snp_model.specs.Attempts.{attempts_of}
 use Rattle.snp_model.specs.Limits.{most}
@@ -25,6 +26,8 @@ pub record IsGuest (guest : GuestSpec) : Type 0 where
   pub opened : guest.opened ≡ true
   pub asid_some : 0 < guest.asid
   pub asid_below : guest.asid < 1024
+  pub iv : guest.iv < 2 ^ 64
+  pub key : AreBytes guest.key
 
 abbrev pub AsidsDiffer : GuestSpec → GuestSpec → Type 0
 AsidsDiffer guest other = guest.asid ≢ other.asid
@@ -49,6 +52,7 @@ GpnsDiffer page other = page.guest ≡ other.guest → page.gpn ≢ other.gpn
 pub record IsWord (frames : ℕ) (word : WordSpec) : Type 0 where
   pub frame : word.frame < frames
   pub index : word.index < 512
+  pub value : word.value < 2 ^ 64
 
 -- an actor
 pub record IsActor (frames guests : ℕ) (actor : Actor) : Type 0 where
