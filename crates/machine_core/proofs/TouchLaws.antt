@@ -142,7 +142,7 @@ item_among regions guests part Firmware (items.Pvalidate address size validate) 
 item_among regions guests part Firmware (items.Rmpadjust address size target mask vmsa) is_role is_item = none_among regions nothing_touched refl
 item_among regions guests part Firmware (items.Rmpupdate update) is_role is_item = none_among regions nothing_touched refl
 item_among regions guests part Firmware (items.Psmash frame) is_role is_item = none_among regions nothing_touched refl
-item_among regions guests part Firmware (items.Firmware command) is_role is_item = none_among regions nothing_touched refl
+item_among regions guests part Firmware (items.Firmware command) is_role is_item = absurd is_item
 item_among regions guests part Firmware (items.Skip count test) is_role is_item = none_among regions nothing_touched refl
 
 -- all that a ready actor's next event touches is there, where all regions are

@@ -162,6 +162,7 @@ fn firmware_event<P: Parts>(
     actor: &ActorState,
     item: Item,
 ) -> Shown
+    requires item { IsItemOf frames Firmware item }
     ensures { item_move frames guests.now (view_on (P.stock parts.now) guests.now) actor.now Firmware item
         ≡ move_by result (view_on (P.stock parts.now) guests.now) actor.now.standing }
 {
