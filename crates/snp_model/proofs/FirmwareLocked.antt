@@ -255,7 +255,7 @@ has_lock m part command number page tested all is =
     }
 
 -- a frame that isn't locked is none of them
-covers_at : (f : ℕ) (locks : List PageLock) (number : ℕ) (lock : PageLock) → slice_get locks number ≡ Some lock → covers f lock ≡ true → list_any (covers f) locks ≡ true
+pub covers_at : (f : ℕ) (locks : List PageLock) (number : ℕ) (lock : PageLock) → slice_get locks number ≡ Some lock → covers f lock ≡ true → list_any (covers f) locks ≡ true
 covers_at f locks number lock is inside =
     list_any_at (covers f) locks number lock (slice_get_within locks number lock is) (ap (covers f) (get_or_from_slice_get locks number lock lock is) ∙ inside)
 
@@ -279,7 +279,7 @@ locks_of : (locked : Option ℕ) (guest : ℕ) → locked ≡ Some guest → unw
 locks_of None guest is = absurd cc
 locks_of (Some own) guest is = same_number own guest (same_some own guest is)
 
-held_context : (part : ActorPart) (guest : ℕ) → part.standing.context_lock ≡ Some guest → locks_context guest part ≡ true
+pub held_context : (part : ActorPart) (guest : ℕ) → part.standing.context_lock ≡ Some guest → locks_context guest part ≡ true
 held_context part guest is = locks_of part.standing.context_lock guest is
 
 contexts_same : (owner : Option ℕ) (command : Command) (made : Computed) (pages : Pages) (contexts : Contexts) (guest : ℕ) → (owner ≡ Some guest → ⊥) → contexts_after owner command made pages contexts guest ≡ contexts guest
@@ -349,6 +349,7 @@ compute_locks m part command (Ok made) stands = record {
   own_contexts = λ g _. refl;
   whole = stands.whole;
   goes_on = λ _. record {
+    still = refl;
     frames = λ f locked. inl locked;
     contexts = λ g locked. inl locked;
     locks_whole = stands.locks_whole;
@@ -369,6 +370,7 @@ context_locks m part command guest None stands is free passes = record {
   own_contexts = λ g _. refl;
   whole = stands.whole;
   goes_on = λ _. record {
+    still = refl;
     frames = λ f locked. inl locked;
     contexts = λ g locked. inr (λ k. subst (λ (x : ℕ). locks_context x (actor_at m.actors k) ≡ false) (eqb-true guest g locked) (free refl k));
     locks_whole = stands.locks_whole;

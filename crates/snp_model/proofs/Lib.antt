@@ -14,6 +14,7 @@ pub mod InstructionLocality
 pub mod LocalityLaws
 pub mod LockLaws
 pub mod LockedItems
+pub mod LockedLaws
 pub mod LockedMoves
 pub mod LockedWalks
 pub mod MemoryLaws

@@ -53,6 +53,7 @@ pub record Stands (m : State) (part : ActorPart) (role : Role) (item : Item) : T
 
 -- what an attempt has that goes on
 pub record GoesOn (m : State) (part : ActorPart) (role : Role) (item : Item) (move : Move) : Type 0 where
+  pub still : move.contents ≡ m.contents
   pub frames : (f : ℕ) → locks_frame f (opened part move) ≡ true → (locks_frame f part ≡ true) ⊎ IsUnlocked m.actors f
   pub contexts : (g : ℕ) → locks_context g (opened part move) ≡ true → (locks_context g part ≡ true) ⊎ ((k : ℕ) → locks_context g (actor_at m.actors k) ≡ false)
   pub locks_whole : LocksWhole move.contents.pages (opened part move)
@@ -76,7 +77,7 @@ quiet_locks m part role item deed outcome stands later = record {
   own = λ f _. firm_itself (m.contents.pages f);
   own_contexts = λ g _. refl;
   whole = stands.whole;
-  goes_on = λ open_is. record { frames = λ f locked. inl locked; contexts = λ g locked. inl locked; locks_whole = stands.locks_whole; tested = later open_is };
+  goes_on = λ open_is. record { still = refl; frames = λ f locked. inl locked; contexts = λ g locked. inl locked; locks_whole = stands.locks_whole; tested = later open_is };
 }
 
 some_none : (outcome : Outcome) → Some outcome ≡ None → ⊥
@@ -163,6 +164,7 @@ lock_locks m part role item lock None stands free tested =
       own_contexts = λ g _. refl;
       whole = stands.whole;
       goes_on = λ _. record {
+        still = refl;
         frames = λ f locked. ⊎_elim (λ (before : list_any (covers f) locks ≡ true). inl before) (λ (new : covers f lock ≡ true). inr (is_free.free f new))
             (covered_or (list_any (covers f) locks) (covers f lock) (sym (one_more_locked f locks lock) ∙ locked));
         contexts = λ g locked. inl locked;

@@ -96,7 +96,7 @@ pub record SmashPasses (frames frame : ℕ) (facts : RmpEntry) (holder : Option 
   pub large : is_large facts.size ≡ true
   pub mutable : facts.immutable ≡ false
 
-not_false : (b : Bool) → not b ≡ false → b ≡ true
+pub not_false : (b : Bool) → not b ≡ false → b ≡ true
 not_false true none = refl
 not_false false none = absurd (true≢false none)
 
