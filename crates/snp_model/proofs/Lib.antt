@@ -1,6 +1,7 @@
 pub mod Adding
 pub mod AttemptLaws
 pub mod Chains
+pub mod CipherLaws
 pub mod CoreLaws
 pub mod FindingLaws
 pub mod EntriesLaws
