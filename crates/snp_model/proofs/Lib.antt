@@ -5,6 +5,7 @@ pub mod CipherLaws
 pub mod CoreLaws
 pub mod FindingLaws
 pub mod EntriesLaws
+pub mod GctrLaws
 pub mod GuestMemoryLaws
 pub mod GuestReadsLaws
 pub mod HeldLocksLaws
@@ -27,6 +28,7 @@ pub mod RegionLaws
 pub mod RegionPagesLaws
 pub mod RoomLaws
 pub mod RunLaws
+pub mod SealLaws
 pub mod ShapeLaws
 pub mod SoundLaws
 pub mod StandingLaws
