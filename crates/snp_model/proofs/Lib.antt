@@ -11,6 +11,7 @@ pub mod GuestReadsLaws
 pub mod HeldLocksLaws
 pub mod InstructionLocality
 pub mod LocalityLaws
+pub mod MadeLaws
 pub mod MemoryLaws
 pub mod MetadataLaws
 pub mod MoveLocality
