@@ -1,12 +1,14 @@
 pub mod Adding
 pub mod AttemptLaws
 pub mod Chains
+pub mod CipherLaws
 pub mod CommandLaws
 pub mod CoreLaws
+pub mod EntriesLaws
 pub mod FindingLaws
 pub mod FirmwareLocality
 pub mod FirmwareLocked
-pub mod EntriesLaws
+pub mod GctrLaws
 pub mod GuestMemoryLaws
 pub mod GuestReadsLaws
 pub mod HeldLocksLaws
@@ -17,6 +19,7 @@ pub mod LockedItems
 pub mod LockedLaws
 pub mod LockedMoves
 pub mod LockedWalks
+pub mod MadeLaws
 pub mod MemoryLaws
 pub mod MetadataLaws
 pub mod MoveLocality
@@ -34,6 +37,7 @@ pub mod RegionLaws
 pub mod RegionPagesLaws
 pub mod RoomLaws
 pub mod RunLaws
+pub mod SealLaws
 pub mod ShapeLaws
 pub mod SoundLaws
 pub mod StandingLaws

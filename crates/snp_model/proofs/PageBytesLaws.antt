@@ -13,10 +13,10 @@ abbrev pub AreWords : List ℕ → Type 0
 AreWords words = (i : ℕ) → get_or words i 0 < 2 ^ 64
 
 -- bytes stay bytes behind others, and before others
-are_from : (n : ℕ) (bytes : List ℕ) → AreBytes bytes → AreBytes (drop n bytes)
+pub are_from : (n : ℕ) (bytes : List ℕ) → AreBytes bytes → AreBytes (drop n bytes)
 are_from n bytes are i = rw (get_or-drop n bytes i 0) (are (n + i))
 
-are_until : (n : ℕ) (bytes : List ℕ) → AreBytes bytes → AreBytes (take n bytes)
+pub are_until : (n : ℕ) (bytes : List ℕ) → AreBytes bytes → AreBytes (take n bytes)
 are_until zero bytes are i = omega arith
 are_until (suc n) [] are i = omega arith
 are_until (suc n) (b ∷ bytes) are zero = are 0
