@@ -213,8 +213,8 @@ compute_deeds_few (Some made) = omega arith
 pub command_few : (frames : ℕ) (command : Command) (standing : Standing) (made : List Deed) → IsCommand frames command standing made → length made ≤ 5
 command_few frames command standing made is =
     let count = ap length is.deeds
-        ∙ length-append (context_deeds standing.context_lock ++ lock_deeds standing.locks) (compute_deeds standing.computed)
-        ∙ ap (λ (n : ℕ). n + length (compute_deeds standing.computed)) (length-append (context_deeds standing.context_lock) (lock_deeds standing.locks)) in
+    ∙ length-append (context_deeds standing.context_lock ++ lock_deeds standing.locks) (compute_deeds standing.computed)
+    ∙ ap (λ (n : ℕ). n + length (compute_deeds standing.computed)) (length-append (context_deeds standing.context_lock) (lock_deeds standing.locks)) in
     let locks = length-map standing.locks (λ (l : PageLock). deeds.Lock l.frame) in
     let context = context_deeds_few standing.context_lock in
     let computed = compute_deeds_few standing.computed in

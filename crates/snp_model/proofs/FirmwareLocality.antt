@@ -247,7 +247,7 @@ context_alike : (first : Option FwRefusal) (guests : List GuestSpec) (one other 
 context_alike (Some refusal) guests one other part command guest same = context_taken_alike nothing_touched one.contents other.contents part guest (Some refusal) same.contents
 context_alike None guests one other part command guest same =
     let refusal = ap (λ (context : Context). context_refusal guests command context (one.context_holder guest)) (same.contents.contexts guest refl)
-        ∙ ap (context_refusal guests command (other.contents.contexts guest)) (same.context_holders guest refl) in
+    ∙ ap (context_refusal guests command (other.contents.contexts guest)) (same.context_holders guest refl) in
     subst (λ (r : Option FwRefusal). MovesAlike (context_touched guest) (context_taken one.contents part guest (context_refusal guests command (one.contents.contexts guest) (one.context_holder guest))) (context_taken other.contents part guest r)) refusal
     (context_taken_alike (context_touched guest) one.contents other.contents part guest _ same.contents)
 
