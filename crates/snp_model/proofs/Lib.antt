@@ -18,6 +18,7 @@ pub mod LockLaws
 pub mod LockedItems
 pub mod LockedLaws
 pub mod LockedMoves
+pub mod LockedRuns
 pub mod LockedWalks
 pub mod MadeLaws
 pub mod MemoryLaws

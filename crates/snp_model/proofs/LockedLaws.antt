@@ -88,7 +88,7 @@ item_locks m part Firmware (items.Skip count test) stands = ended_locks m part F
 -- what was tested of a frame that stays firm still holds
 
 -- where nothing is locked, nothing was tested
-nothing_tested : (frames : ℕ) (guests : List GuestSpec) (contents : Contents) (role : Role) (item : Item) (made : List Deed) → AreItemLocks frames guests contents role item made nothing_taken
+pub nothing_tested : (frames : ℕ) (guests : List GuestSpec) (contents : Contents) (role : Role) (item : Item) (made : List Deed) → AreItemLocks frames guests contents role item made nothing_taken
 unfolding AreItemLocks
 nothing_tested frames guests contents (Cpu guest vmpl npt paging) (items.Access address op) made = refl
 nothing_tested frames guests contents (Cpu guest vmpl npt paging) (items.Pvalidate address size validate) made = record { lock = tt; context = refl; computed = refl }
@@ -389,11 +389,11 @@ tested_after m actor place move keeps locks =
     subst (IsTestedAt m.frames m.guests move.contents) (sym (get_or-set_other m.actors (actor - 1) place new idle_part other)) (tested_other m actor place _ _ move keeps locks other))
     (cases_eq place (actor - 1))
 
-abbrev move_at : State → ℕ → Move
+abbrev pub move_at : State → ℕ → Move
 move_at m actor =
     let part = part_of m actor in item_move m.frames m.guests (view_of m) part part.role (line_at part.script part.item).item
 
-move_locks : (m : State) (actor : ℕ) → KeepsLocks m → IsWalking m.frames (part_of m actor) → MoveLocks m (part_of m actor) (part_of m actor).role (line_at (part_of m actor).script (part_of m actor).item).item (move_at m actor)
+pub move_locks : (m : State) (actor : ℕ) → KeepsLocks m → IsWalking m.frames (part_of m actor) → MoveLocks m (part_of m actor) (part_of m actor).role (line_at (part_of m actor).script (part_of m actor).item).item (move_at m actor)
 move_locks m actor keeps walking = item_locks m (part_of m actor) _ _ (stands_at m actor keeps walking)
 
 pub step_keeps_locks : (m : State) (actor : ℕ) → KeepsLocks m → IsWalking m.frames (part_of m actor) → KeepsLocks (after m actor)
