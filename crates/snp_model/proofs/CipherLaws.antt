@@ -1,10 +1,10 @@
 -- The cipher makes bytes, under a key of bytes.
-use Rattle.std.proofs.Common.{◌≡◌, ℕ, zero, suc, ◌+◌, ◌-◌, ◌*◌, ◌/◌, ◌%◌, ◌^◌, ◌<◌, Bool, List, [], ◌∷◌, ◌++◌, get_or, eqb, refl, sym, ap, ◌∙◌, arith}
-use Rattle.std.specs.Prelude.{slice_index, slice_index_or, nat_lt, ◌==◌}
+use Rattle.std.proofs.Common.{ℕ, zero, suc, ◌+◌, ◌-◌, ◌*◌, ◌/◌, ◌%◌, ◌^◌, ◌<◌, List, [], ◌∷◌, ◌++◌, eqb, arith}
+use Rattle.std.specs.Prelude.{slice_index, nat_lt}
 use Rattle.std.specs.List.{AllByRecursion}
 use Rattle.std.proofs.lemmas.Bool.{cond_both}
 use Rattle.std.proofs.lemmas.Nat.{xor_lt, mod_below}
-use Rattle.snp_model.specs.Aes.{at, state_of, sub_bytes, shift_rows, mix_columns, word, add_round_key, word_of, add_words, rot_word, sub_word, round_constants, rcon, key_mask, next_word, first_words, key_expansion, rounds, cipher}
+use Rattle.snp_model.specs.Aes.{at, state_of, sub_bytes, shift_rows, word, add_round_key, word_of, add_words, rot_word, sub_word, round_constants, rcon, key_mask, next_word, first_words, key_expansion, rounds, cipher}
 use Rattle.snp_model.specs.AesField.{◌⊕◌, bit, affine_bit, affine, inverse, s_box}
 use Rattle.snp_model.specs.Metadata.{AreBytes}
 

@@ -2,15 +2,14 @@
 use Rattle.std.proofs.Common.{◌≡◌, ℕ, true, List, Option, Some, None, Result, Ok, Err, refl, sym, ap, ◌∙◌, subst}
 use Rattle.std.specs.Prelude.{bytes_eq}
 use Rattle.snp_model.specs.declared.event.FwRefusal.{FwRefusal}
-use Rattle.snp_model.specs.declared.event.FwRefusal.TheVariants.{BadTag}
 use Rattle.snp_model.specs.declared.firmware.MetaEntry.{MetaEntry}
-use Rattle.snp_model.specs.Live.{Archived, Archive, Vault}
+use Rattle.snp_model.specs.Live.{Archived, Vault}
 use Rattle.snp_model.specs.MadePages.{IsSealNow, AreWordsOf, IsOpenedNow}
-use Rattle.snp_model.specs.Metadata.{AreBytes, found_tag, opened_words, opened, sealed}
+use Rattle.snp_model.specs.Metadata.{AreBytes, found_tag, opened_words, opened}
 use Rattle.snp_model.specs.Premises.{IsCipherOf, IsOpenedWith}
 use Rattle.snp_model.specs.Sealing.{What, Slot, SealOut, SealIn, slot_entry, opens_as, opened_with, opened_as, compute_of}
 use Rattle.snp_model.specs.State.{Context, Contents, Computed}
-use Rattle.snp_model.specs.Uniqueness.{IsFull, IsSealOf, HasArchive}
+use Rattle.snp_model.specs.Uniqueness.{HasArchive}
 use Rattle.snp_model.proofs.SealLaws.{opened_sealed}
 use Rattle.snp_model.proofs.SoundLaws.{guard_ok}
 
@@ -61,7 +60,7 @@ archived_again vault entry words made keys has cipher is =
     let key = vault.context.key in
     let same : words ≡ has.archived.cipher = subst (λ (kept : Option Archived). IsCipherOf kept words) has.kept cipher in
     let back : made ≡ has.archived.words =
-      is ∙ ap (opened_words key entry) (same ∙ has.seals.cipher) ∙ opened_sealed key entry has.archived.words keys has.seals.full.fits in
+    is ∙ ap (opened_words key entry) (same ∙ has.seals.cipher) ∙ opened_sealed key entry has.archived.words keys has.seals.full.fits in
     subst (λ (kept : Option Archived). AreWordsOf kept made) (sym has.kept) back
 
 -- a page that was opened, for a guest whose vault this is, where no ciphertext meets the tag of another

@@ -1,18 +1,15 @@
 -- At the opening of a valid scenario all that ties a guest's pages to their holders holds.
-use Rattle.std.proofs.Common.{◌≡◌, ℕ, zero, suc, ◌+◌, ◌-◌, ◌<◌, ◌≤◌, ◌⊎◌, Bool, true, false, cond, eqb, List, [], ◌∷◌, ◌++◌, length, slice_get, Option, Some, None, refl, sym, ap, ◌∙◌, subst, ⊎_elim, inl, inr, arith}
+use Rattle.std.proofs.Common.{◌≡◌, ℕ, zero, suc, ◌+◌, ◌-◌, ◌<◌, ◌≤◌, ◌⊎◌, Bool, true, false, cond, eqb, List, [], ◌∷◌, ◌++◌, length, slice_get, None, refl, sym, ap, ◌∙◌, subst, ⊎_elim, inl, inr, arith}
 use Rattle.std.specs.Prelude.{◌&&◌}
-use Rattle.std.proofs.lemmas.Bool.{cond_both, and_parts, eqb-true}
+use Rattle.std.proofs.lemmas.Bool.{cond_both}
 use Rattle.std.proofs.lemmas.Bool.Decides.{nat_tests}
 use Rattle.std.proofs.lemmas.List.{length-append}
-use Rattle.snp_model.specs.declared.entry.Kind.{Kind}
 use Rattle.snp_model.specs.declared.entry.Kind.TheVariants as kinds
-use Rattle.snp_model.specs.declared.firmware.MetaEntry.{MetaEntry}
 use Rattle.snp_model.specs.declared.scenario.Scenario.{Scenario}
-use Rattle.snp_model.specs.Facts.{free_entry}
 use Rattle.snp_model.specs.GuestMemory.{Memory, opening_memory}
-use Rattle.snp_model.specs.Holders.{Holder, InFrame, IsHeldAs, Holds, Core, frame_holder, sealed_holders, holders}
+use Rattle.snp_model.specs.Holders.{Holder, InFrame, IsHeldAs, Core, frame_holder, sealed_holders, holders}
 use Rattle.snp_model.specs.Invariant.{IsUnique}
-use Rattle.snp_model.specs.Live.{Vault, Live, vault_of, is_metadata_kind, rows, page_live, root_live, live}
+use Rattle.snp_model.specs.Live.{Vault, vault_of, is_metadata_kind, rows, page_live, root_live, live}
 use Rattle.snp_model.specs.Opening.{asid_of, words_from, opening}
 use Rattle.snp_model.specs.Past.{Past}
 use Rattle.snp_model.specs.Sound.{Pairwise, IsSound}
@@ -82,6 +79,7 @@ rows_one of first (suc count) each one =
     some_or_none : (n : ℕ) → (0 < n) ⊎ (n ≡ 0)
     some_or_none zero = inr refl
     some_or_none (suc n) = inl (omega arith)
+
     empty_from : {X : Type 0} (of : ℕ → List X) (first k : ℕ) → first + 1 ≤ k → 0 < length (of first) → length (of k) ≤ 1 → (0 < length (of first) → 0 < length (of k) → first ≡ k) → length (of k) ≡ 0
     empty_from of first k above some most same =
         ⊎_elim (λ (other : 0 < length (of k)). absurd (let e = same some other in omega arith)) (λ (none : length (of k) ≡ 0). none) (some_or_none (length (of k)))
@@ -110,7 +108,7 @@ one_holder : (asid : ℕ) (vault : Vault) (memory : Memory) (frames gpn : ℕ) �
 unfolding holders sealed_holders
 one_holder asid vault memory frames gpn plain core =
     let one = rows_one (frame_holder asid vault gpn) 0 frames (frame_most asid vault gpn)
-      (λ k l x y. in_frames k l (core.unique gpn (InFrame k) (InFrame l) (vault.pages k).words (vault.pages l).words (held_if asid gpn vault k x, refl) (held_if asid gpn vault l y, refl))) in
+    (λ k l x y. in_frames k l (core.unique gpn (InFrame k) (InFrame l) (vault.pages k).words (vault.pages l).words (held_if asid gpn vault k x, refl) (held_if asid gpn vault l y, refl))) in
     let none : length (sealed_holders gpn (live asid vault frames)) ≡ 0 = ap (λ xs. length (sealed_holders gpn xs)) (live_none asid vault frames plain) in
     let both = length-append (rows (frame_holder asid vault gpn) 0 frames) (sealed_holders gpn (live asid vault frames)) in
     omega arith
