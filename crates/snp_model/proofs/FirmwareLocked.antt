@@ -36,6 +36,7 @@ use Rattle.snp_model.specs.PageStates.{state_of}
 use Rattle.snp_model.specs.Sealing.{What, GuestPage, MetadataPage, Slot, OfEntry, OfRoot, Sealing, SealOut, SealIn, sealing_of, compute_of, given_up, brought_back, entry_set, with_slot_entry, no_entry, pages_out, pages_in}
 use Rattle.snp_model.specs.State.{Page, Pages, PageLock, Context, Contexts, Contents, Computed, Standing, ActorPart, State}
 use Rattle.snp_model.specs.Verdicts.{is_large}
+use Rattle.snp_model.proofs.HeldLocksLaws.{lock_freed, guest_context_freed}
 use Rattle.snp_model.proofs.LockLaws.{actor_at, AreWholePages, IsFree, page_free, own_covered, not_true, context_idle, first_none, others_none}
 use Rattle.snp_model.proofs.LockedMoves.{IsFirm, firm_itself, opened, Stands, GoesOn, MoveLocks, quiet_locks, ended_locks, lock_locks, same_whole}
 use Rattle.snp_model.proofs.TestedLaws.{Let, let_through}
@@ -425,7 +426,7 @@ page_locks m part command page stands next =
     (λ open_is.
     let none = no_refusal refusal open_is in
     locks_more m part command page lock stands.tested next refl
-    (subst (λ (o : Option ℕ). lock_refusal m.frames asid command page found o ≡ None) (lock_unheld m.frames asid command page found holder none) none))
+    (lock_freed m.frames asid command page found holder none))
 
 -- so each event of a command, by what its attempt needs
 pages_phase_locks : (m : State) (part : ActorPart) (command : Command) (page : Option CommandPage) (sealing : Option Sealing) (computed : Option Computed)
@@ -449,7 +450,7 @@ context_phase_locks m part command (Some guest) None later owner_is locked_is st
     let refusal = option_or first (context_refusal m.guests command context holder) in
     context_locks m part command guest refusal stands owner_is
     (λ none. none_locks 1 m.actors guest (context_unheld m.guests command guest context holder none))
-    (λ none. subst (λ (o : Option ℕ). option_or first (context_refusal m.guests command context o) ≡ None) (context_unheld m.guests command guest context holder none) none)
+    (λ none. guest_context_freed m.guests command guest context holder none)
 context_phase_locks m part command (Some guest) (Some own) later owner_is locked_is stands tested then =
     then (λ g is. locked_is ∙ sym (tested.context own locked_is).guest_is ∙ is)
 context_phase_locks m part command None locked later owner_is locked_is stands tested then =

@@ -31,10 +31,11 @@ use Rattle.snp_model.specs.RmpUpdate.{is_bad_update, overlaps, update_lock, upda
 use Rattle.snp_model.specs.State.{Page, Pages, PageLock, Contents, ActorPart, State}
 use Rattle.snp_model.specs.Validation.{validated_facts, validated_page, pages_validated, adjusted_page, pages_adjusted}
 use Rattle.snp_model.specs.Verdicts.{is_large}
+use Rattle.snp_model.proofs.HeldLocksLaws.{update_freed, smash_freed}
 use Rattle.snp_model.proofs.LockLaws.{AreOfOneRegion, AreWholePages, HaveOneHolder, IsFree, page_free, range_free, small_range_covered, region_covered, page_region, region_page, small_not_large}
 use Rattle.snp_model.proofs.LockedMoves.{IsFirm, Stands, MoveLocks, lock_locks, memory_locks, firm_itself, same_whole}
 use Rattle.snp_model.proofs.RangeLaws.{over_beside}
-use Rattle.snp_model.proofs.TestedLaws.{UpdatePasses, update_passes, update_stays, SmashPasses, smash_passes, smash_stays, first_fails}
+use Rattle.snp_model.proofs.TestedLaws.{UpdatePasses, update_passes, SmashPasses, smash_passes, first_fails}
 
 -- a change over a lock's range leaves the other frames
 pub over_firm : (lock : PageLock) (change : ℕ → Page → Page) (pages : Pages) (f : ℕ) → covers f lock ≡ false → IsFirm (over lock.base lock.count change pages f) (pages f)
@@ -177,7 +178,7 @@ update_locks m part update [] is stands =
     (λ none. let passes = passed none in
         range_free m.contents.pages m.actors update.size update.frame (first_small m.contents.pages update passes.fits) (bad_aligned m.frames update passes.fine) passes.unheld)
     (λ none. first_lock (IsUpdateLock m.frames m.contents update) part (update_lock update) is stands.tested
-        (record { covers = refl; passes = update_stays m.frames update facts holder (passed none) }))
+        (record { covers = refl; passes = update_freed m.frames update facts holder (no_outcome refusal none) }))
 update_locks m part update (lock ∷ others) is stands =
     let tested = subst (IsOneLock (IsUpdateLock m.frames m.contents update)) is stands.tested.lock in
     let facts = λ (place : ℕ). facts_of m.contents (update.frame + place) in
@@ -227,7 +228,7 @@ smash_locks m part frame [] is stands =
     lock_locks m part Host (items.Psmash frame) lock (option_map refused_outcome refusal) stands
     (λ none. page_free m.contents.pages m.actors frame stands.whole stands.exclusive (smash_passes m.frames frame facts holder (no_outcome refusal none)).unheld)
     (λ none. first_lock (IsSmashLock m.frames m.contents frame) part lock is stands.tested
-        (record { covers = refl; passes = smash_stays m.frames frame facts holder (no_outcome refusal none) }))
+        (record { covers = refl; passes = smash_freed m.frames frame facts holder (no_outcome refusal none) }))
 smash_locks m part frame (lock ∷ others) is stands =
     let tested = subst (IsOneLock (IsSmashLock m.frames m.contents frame)) is stands.tested.lock in
     let facts = facts_of m.contents frame in

@@ -35,11 +35,12 @@ use Rattle.snp_model.specs.Validation.{validate_refusal, adjust_refusal, carry, 
 use Rattle.snp_model.specs.Verdicts.{private_verdict, shared_verdict}
 use Rattle.snp_model.specs.Walking.{Processor, lookup_of, index_of, need_after, fault_of}
 use Rattle.std.proofs.lemmas.List.{length_push}
+use Rattle.snp_model.proofs.HeldLocksLaws.{validate_freed, adjust_freed}
 use Rattle.snp_model.proofs.LockLaws.{IsFree, page_free}
 use Rattle.snp_model.proofs.LockedItems.{no_outcome, first_lock, over_firm, beside_lock}
 use Rattle.snp_model.proofs.LockedMoves.{IsFirm, Stands, MoveLocks, quiet_locks, ended_locks, access_locks, lock_locks, memory_locks, same_whole}
 use Rattle.snp_model.proofs.OpenAttemptsLaws.{locked_need, arrived_move}
-use Rattle.snp_model.proofs.TestedLaws.{validate_unheld, validate_stays, adjust_unheld, adjust_stays}
+use Rattle.snp_model.proofs.TestedLaws.{validate_unheld, adjust_unheld}
 use Rattle.snp_model.proofs.UseLaws.{pass_mutable, shared_holds_none}
 
 -- a guest processor as a role
@@ -204,7 +205,7 @@ validate_from m part cpu address size validate [] none stands =
     let place = page_place (asid_of m.guests cpu.guest) cpu.vmpl gpn frame leaf in
     let holder = (view_of m).holder frame in
     page_locks m part item cpu address test (validate_refusal place size facts holder) gpn private frame leaf stands none need
-    (validate_unheld place size facts holder) (validate_stays place size facts holder) stands.tested (λ tested. tested))
+    (validate_unheld place size facts holder) (validate_freed place size facts holder) stands.tested (λ tested. tested))
 validate_from m part cpu address size validate (lock ∷ others) some stands =
     let item = items.Pvalidate address size validate in
     let come = has_come m part cpu address (validate_test size) lock others some stands.tested stands.walking in
@@ -238,7 +239,7 @@ adjust_from m part cpu address size target mask vmsa [] none stands =
     let place = page_place (asid_of m.guests cpu.guest) cpu.vmpl gpn frame leaf in
     let holder = (view_of m).holder frame in
     page_locks m part item cpu address test (adjust_refusal place size mask vmsa facts holder) gpn private frame leaf stands none need
-    (adjust_unheld place size mask vmsa facts holder) (adjust_stays place size mask vmsa facts holder) stands.tested (λ tested. tested))
+    (adjust_unheld place size mask vmsa facts holder) (adjust_freed place size mask vmsa facts holder) stands.tested (λ tested. tested))
 adjust_from m part cpu address size target mask vmsa (lock ∷ others) some stands =
     let item = items.Rmpadjust address size target mask vmsa in
     let come = has_come m part cpu address (adjust_test size mask vmsa) lock others some stands.tested stands.walking in

@@ -1,4 +1,4 @@
--- What the locks of RMPUPDATE, PSMASH, PVALIDATE and RMPADJUST have tested: as they are taken, and while they are held.
+-- What the locks of RMPUPDATE, PSMASH, PVALIDATE and RMPADJUST have found where they refuse nothing.
 use Rattle.std.proofs.Common.{◌≡◌, ◌≢◌, ℕ, zero, suc, ◌+◌, ◌-◌, ◌%◌, ◌<◌, Bool, true, false, not, ◌&&◌, ◌||◌, cond, eqb, List, [], ◌∷◌, Option, Some, None, refl, sym, ap, ◌∙◌, subst, ⊎_elim, arith}
 use Rattle.std.proofs.lemmas.Bool.{cond_both, cases_eq, true≢false}
 use Rattle.std.proofs.lemmas.Bool.Decides.{nat_tests}
@@ -27,10 +27,6 @@ pub let_through : {R : Type 0} (test : Bool) (refusal : R) (later : Option R) �
 let_through true refusal later none = absurd cc
 let_through false refusal later none = record { fails = refl; after_it = none }
 
-pub stays_through : {R : Type 0} (test : Bool) (refusal : R) (later : Option R) → test ≡ false → later ≡ None → cond test (Some refusal) later ≡ None
-stays_through true refusal later fails none = absurd (true≢false fails)
-stays_through false refusal later fails none = none
-
 -- a lock that refuses nothing: nobody holds it
 pub record Free (holder : Option ℕ) (later : Option Refusal) : Type 0 where
   pub unheld : holder ≡ None
@@ -39,12 +35,6 @@ pub record Free (holder : Option ℕ) (later : Option Refusal) : Type 0 where
 pub let_free : (holder : Option ℕ) (later : Option Refusal) → in_use_or holder later ≡ None → Free holder later
 let_free (Some actor) later none = absurd cc
 let_free None later none = record { unheld = refl; after_it = none }
-
--- nobody holds any of a range
-pub nobody_holds : (base count : ℕ) → range_holder (λ place. None) base count ≡ None
-unfolding range_holder
-nobody_holds base zero = refl
-nobody_holds base (suc count) = nobody_holds (base + 1) count
 
 pub first_fails : (a b : Bool) → (a || b) ≡ false → a ≡ false
 first_fails true b none = absurd (true≢false none)
@@ -81,13 +71,6 @@ update_passes frames update facts holder none =
     let frozen = let_through (some_frame (λ place. (facts place).immutable) 0 (frames_in update.size)) (Status 2) None sizes.after_it in
     record { fine = input.fails; unheld = free.unheld; fits = sizes.fails; mutable = frozen.fails }
 
-pub update_stays : (frames : ℕ) (update : Update) (facts : ℕ → RmpEntry) (holder : ℕ → Option ℕ) → UpdatePasses frames update facts holder → update_refusal frames update facts (λ place. None) ≡ None
-unfolding update_refusal update_range_refusal
-update_stays frames update facts holder passes =
-    stays_through (is_bad_update frames update) (Status 1) _ passes.fine
-    (ap (λ (o : Option ℕ). in_use_or o (cond (overlaps update.size facts) (Some (Status 4)) (cond (some_frame (λ place. (facts place).immutable) 0 (frames_in update.size)) (Some (Status 2)) None))) (nobody_holds 0 (frames_in update.size))
-    ∙ stays_through (overlaps update.size facts) (Status 4) _ passes.fits (stays_through (some_frame (λ place. (facts place).immutable) 0 (frames_in update.size)) (Status 2) None passes.mutable refl))
-
 -- PSMASH
 
 pub record SmashPasses (frames frame : ℕ) (facts : RmpEntry) (holder : Option ℕ) : Type 0 where
@@ -109,9 +92,6 @@ smash_passes frames frame facts holder none =
     let frozen = let_through facts.immutable (Status 2) None sizes.after_it in
     record { fine = input.fails; unheld = free.unheld; large = not_false (is_large facts.size) sizes.fails; mutable = frozen.fails }
 
-pub smash_stays : (frames frame : ℕ) (facts : RmpEntry) (holder : Option ℕ) → smash_refusal frames frame facts holder ≡ None → smash_refusal frames frame facts None ≡ None
-smash_stays frames frame facts holder none = subst (λ (o : Option ℕ). smash_refusal frames frame facts o ≡ None) (smash_passes frames frame facts holder none).unheld none
-
 -- PVALIDATE and RMPADJUST
 
 pub validate_unheld : (at : Place) (size : PageSize) (facts : RmpEntry) (holder : Option ℕ) → validate_refusal at size facts holder ≡ None → holder ≡ None
@@ -120,13 +100,6 @@ validate_unheld at size facts holder none =
     let input = let_through (is_large size && not (eqb (at.gpn % 512) 0)) (Status 1) _ none in
     (let_free holder _ input.after_it).unheld
 
-pub validate_stays : (at : Place) (size : PageSize) (facts : RmpEntry) (holder : Option ℕ) → validate_refusal at size facts holder ≡ None → validate_refusal at size facts None ≡ None
-validate_stays at size facts holder none = subst (λ (o : Option ℕ). validate_refusal at size facts o ≡ None) (validate_unheld at size facts holder none) none
-
 pub adjust_unheld : (at : Place) (size : PageSize) (mask : ℕ) (vmsa : Bool) (facts : RmpEntry) (holder : Option ℕ) → adjust_refusal at size mask vmsa facts holder ≡ None → holder ≡ None
 unfolding adjust_refusal
 adjust_unheld at size mask vmsa facts holder none = validate_unheld at size facts holder (first_none (validate_refusal at size facts holder) (adjust_further at mask vmsa facts) none)
-
-pub adjust_stays : (at : Place) (size : PageSize) (mask : ℕ) (vmsa : Bool) (facts : RmpEntry) (holder : Option ℕ) → adjust_refusal at size mask vmsa facts holder ≡ None → adjust_refusal at size mask vmsa facts None ≡ None
-adjust_stays at size mask vmsa facts holder none =
-    subst (λ (o : Option ℕ). adjust_refusal at size mask vmsa facts o ≡ None) (adjust_unheld at size mask vmsa facts holder none) none
