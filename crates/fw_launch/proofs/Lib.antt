@@ -1,0 +1,2 @@
+pub mod LaunchLaws
+pub mod PassedLaws
