@@ -1,5 +1,5 @@
 -- What is known of the entries that a region keeps.
-use Rattle.std.proofs.Common.{◌≡◌, ℕ, zero, suc, ◌+◌, ◌-◌, ◌*◌, ◌/◌, ◌%◌, ◌<◌, ◌≤◌, true, false, List, [], ◌∷◌, length, get_or, set, map, replicate, Option, Some, None, Result, Err, refl, sym, subst, ap, ◌∙◌, inl, inr, ◌⊎◌, arith, length-set}
+use Rattle.std.proofs.Common.{◌≡◌, ℕ, zero, suc, ◌+◌, ◌-◌, ◌*◌, ◌/◌, ◌%◌, ◌<◌, ◌≤◌, true, false, List, [], ◌∷◌, length, get_or, set, map, replicate, Option, Some, None, Result, Err, refl, sym, subst, ap, ◌∙◌, inl, inr, ◌⊎◌, IfSome, arith, length-set}
 use Rattle.std.specs.List.{range_with_len}
 use Rattle.std.specs.Option.{option_or}
 use Rattle.std.proofs.lemmas.Bool.{cases_Bool, cases_eq, cases_lt, cond-true, cond-false}
@@ -259,6 +259,11 @@ lowest_is_at f a (suc n) holder is =
       | inl first ↦ record { slot = a; low = omega arith; high = omega arith; here = first }
       | inr rest ↦ let at = lowest_is_at f (a + 1) n holder rest in record { slot = at.slot; low = let low = at.low in omega arith; high = let high = at.high in omega arith; here = at.here }
     ]
+
+-- the lowest holder holds a lock
+pub lowest_held : (f : ℕ → Option ℕ) (found : Option ℕ) → found ≡ range_holder f 0 512 → IfSome found (λ holder. (slot : ℕ) × (slot < 512) × (f slot ≡ Some holder))
+lowest_held f None is = tt
+lowest_held f (Some holder) is = let at = lowest_is_at f 0 512 holder (sym is) in (at.slot, (let high = at.high in omega arith), at.here)
 
 -- ---- an entry is written
 

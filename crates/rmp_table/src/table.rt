@@ -1,8 +1,8 @@
-ghost use Rattle.std.specs.Prelude.{◌≡◌, ◌≢◌, ℕ, ◌%◌, ◌<◌, length, map, Some, None, replicate, slice_set, true, IfOk, IsOk, IsErr};
+ghost use Rattle.std.specs.Prelude.{◌≡◌, ◌≢◌, ℕ, ◌%◌, ◌<◌, length, map, Some, None, replicate, slice_set, true, IfOk, IfSome, IsOk, IsErr};
 ghost use Rattle.std.specs.List.{range_with_len};
 ghost use Rattle.snp_model.specs.declared.entry.PageSize.TheVariants.{Small, Large};
 ghost use Rattle.snp_model.specs.Facts.{free_entry, page_base};
-ghost use Rattle.snp_model.specs.Entries.{IsOnePage, IsRegionEntry, IsTable, facts_at, facts_within, holder_at, lock_answer, with_entry, with_lock, without_locks};
+ghost use Rattle.snp_model.specs.Entries.{HasOneHolder, IsOnePage, IsRegionEntry, IsTable, facts_at, facts_within, holder_at, lock_answer, with_entry, with_lock, without_locks};
 ghost use Rattle.snp_model.specs.Locks.{page_lock, range_holder, range_lock};
 ghost use Rattle.snp_model.specs.RmpUpdate.{smashed_facts};
 
@@ -37,6 +37,7 @@ impl RmpRegion {
     pub fn free(alloc: Global) -> Result<RmpRegion, AllocError>
         ensures facts { IfOk result (λ rmp. rmp.facts ≡ replicate 512 free_entry) }
         ensures unlocked { IfOk result (λ rmp. rmp.holders ≡ replicate 512 None) }
+        ensures one_holder { IfOk result HasOneHolder }
     {
         Ok(RmpRegion {
             size: PageSize::Small,
@@ -73,7 +74,8 @@ impl RmpRegion {
 
     /// The holder of the lowest frame's lock, of those that stand.
     pub fn lowest_holder(&self) -> Option<u32>
-        ensures { result ≡ range_holder (holder_at self.now) 0 512 }
+        ensures lowest { result ≡ range_holder (holder_at self.now) 0 512 }
+        ensures held { IfSome result (λ holder. (slot : ℕ) × (slot < 512) × (holder_at self.now slot ≡ Some holder)) }
     {
         self.locks.lowest()
     }

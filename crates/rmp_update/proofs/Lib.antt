@@ -1,2 +1,3 @@
 pub mod CommitLaws
+pub mod LockLaws
 pub mod RowLaws

@@ -37,7 +37,7 @@ pub some_frame_none : (test : ℕ → Bool) → ((k : ℕ) → k < 512 → test 
 unfolding some_frame
 some_frame_none test none = no_frame test 0 512 (λ k low high. none k (omega arith))
 
-some≢none : {X : Type 0} (x : X) → Some x ≡ None → ⊥
+pub some≢none : {X : Type 0} (x : X) → Some x ≡ None → ⊥
 some≢none x e = cc
 
 -- a row that doesn't apply
@@ -167,3 +167,7 @@ same_in_use x y same = cc
 
 pub same_holder : (x y : ℕ) → ◌≡◌ {A = Result (Unit {0}) Refusal} (Err (InUse x)) (Err (InUse y)) → x ≡ y
 same_holder x y same = same_in_use x y (same_error (InUse x) (InUse y) same)
+
+-- a holder of a lock is no actor that holds none
+pub not_holding : (rmp : Entries) (actor holder : ℕ) → ((slot : ℕ) → slot < 512 → holder_at rmp slot ≡ Some actor → ⊥) → ((slot : ℕ) × (slot < 512) × (holder_at rmp slot ≡ Some holder)) → holder ≡ actor → ⊥
+not_holding rmp actor holder none at own = none at.0 at.1 (at.2 ∙ ap (λ (h : ℕ). let o : Option ℕ = Some h in o) own)

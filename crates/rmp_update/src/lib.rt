@@ -3,6 +3,8 @@
 
 mod commit;
 mod smash;
+#[cfg(test)]
+mod tests;
 mod update;
 
 pub use commit::update_commit;

@@ -28,6 +28,8 @@ pub fn smash_lock(rmp: &mut RmpRegion, actor: u32) -> Result<(), Refusal>
     ensures another { (holder : ℕ) → result ≡ Err (Refusal.InUse holder) → holder ≢ actor }
     ensures facts { rmp.new.facts ≡ rmp.old.facts }
     ensures locked { IsOk result → holder_at rmp.new ≡ with_lock (page_lock (facts_at rmp.old 0).size 0) actor (holder_at rmp.old) }
+    ensures held { IsOk result → holder_at rmp.new 0 ≡ Some actor }
+    ensures tested { IsOk result → smash_page_refusal (facts_at rmp.new 0) None ≡ None }
     ensures refused { IsErr result → rmp.new ≡ rmp.old }
 {
     let entry = rmp.effective(0);

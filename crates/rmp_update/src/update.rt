@@ -5,7 +5,7 @@ ghost use Rattle.snp_model.specs.Facts.{some_frame};
 ghost use Rattle.snp_model.specs.Locks.{range_lock};
 ghost use Rattle.snp_model.specs.RmpUpdate.{is_bad_update};
 ghost use Rattle.snp_model.specs.Verdicts.{is_large};
-ghost use Rattle.rmp_update.specs.Regions.{IsAccepted, first_slot, large_refusal, region_answer, region_refusal, small_refusal};
+ghost use Rattle.rmp_update.specs.Regions.{HoldsRange, IsAccepted, IsTested, first_slot, large_refusal, region_answer, region_refusal, small_refusal};
 
 use rmp_table::RmpRegion;
 use snp_model::{InUse, PageSize, Refusal, Update};
@@ -13,7 +13,8 @@ use snp_model::{InUse, PageSize, Refusal, Update};
 /// The region that RMPUPDATE names, in a memory of so many frames. Status 1 where its operands are refused before
 /// any entry is looked at.
 pub fn update_region(update: &Update, frames: u32) -> Result<u32, u8>
-    ensures { result ≡ region_answer (is_bad_update frames update.now) update.now.frame }
+    ensures region { result ≡ region_answer (is_bad_update frames update.now) update.now.frame }
+    ensures accepted { IsOk result → IsAccepted update.now }
 {
     if is_bad_update(update, frames) {
         Err(1)
@@ -31,6 +32,8 @@ pub fn update_lock(rmp: &mut RmpRegion, update: &Update, actor: u32) -> Result<(
     ensures another { (holder : ℕ) → result ≡ Err (Refusal.InUse holder) → holder ≢ actor }
     ensures facts { rmp.new.facts ≡ rmp.old.facts }
     ensures locked { IsOk result → holder_at rmp.new ≡ with_lock (range_lock update.now.size (first_slot update.now)) actor (holder_at rmp.old) }
+    ensures held { IsOk result → HoldsRange rmp.new update.now actor }
+    ensures tested { IsOk result → IsTested rmp.new update.now }
     ensures refused { IsErr result → rmp.new ≡ rmp.old }
 {
     match update.size {
