@@ -1,0 +1,5 @@
+use std::alloc::{AllocError, Global};
+
+pub struct GuestMemory {
+    alloc: Global,
+}
