@@ -23,7 +23,7 @@ left_test q k = grind (arith, nat_tests)
 right_test : (k q : ℕ) → is_eq (nat_cmp k q) ≡ eqb q k
 right_test k q = grind (arith, nat_tests)
 
-get_inserted : (memory : Memory) (k : ℕ) (v : Places) (q : ℕ) → get (insert memory k v) q ≡ cond (eqb q k) (Some v) (get memory q)
+pub get_inserted : (memory : Memory) (k : ℕ) (v : Places) (q : ℕ) → get (insert memory k v) q ≡ cond (eqb q k) (Some v) (get memory q)
 get_inserted memory k v q = get-insert nat_cmp_total memory k v q ∙ ap (λ (b : Bool). cond b (Some v) (get memory q)) (left_test q k)
 
 get_removed : (memory : Memory) (k q : ℕ) → get (remove memory k) q ≡ cond (eqb q k) None (get memory q)

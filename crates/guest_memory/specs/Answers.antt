@@ -1,5 +1,5 @@
 -- How a use of a guest's memory is answered, and the numbers that tell why one isn't legal. This project's own.
-use Rattle.std.specs.Prelude.{◌≡◌, ℕ, ◌<◌, ◌^◌, Option, Some, None, unwrap_or, Result, Ok, Err}
+use Rattle.std.specs.Prelude.{◌≡◌, ℕ, ◌<◌, ◌^◌, ◌==◌, Bool, false, not, Option, Some, None, unwrap_or, Result, Ok, Err}
 use Rattle.snp_model.specs.declared.event.Deed.{Deed}
 use Rattle.snp_model.specs.declared.event.Deed.TheVariants as deeds
 use Rattle.snp_model.specs.GuestMemory.{Memory, Use, Untouched, Reads, Writes, Exchanges, Compares, Accepts, Rescinds, Launches, IsHeld, MayRead, IsLegalUse, known, used, with_known}
@@ -97,3 +97,9 @@ pub record IsUntouched (old : Memory) (gpn index : ℕ) (found : Option ℕ) (fa
 abbrev pub Touches : Memory → ℕ → ℕ → Option ℕ → ℕ → Result (Unit {0}) ApplyFault → Memory → Type 0
 Touches old gpn index found left (Ok done) new = IsTouched old gpn index found left new
 Touches old gpn index found left (Err fault) new = IsUntouched old gpn index found fault new
+
+-- whether a word that is known differs from one that was found, where there are both
+abbrev pub differ : Option ℕ → Option ℕ → Bool
+differ None found = false
+differ (Some word) None = false
+differ (Some word) (Some found) = not (word == found)

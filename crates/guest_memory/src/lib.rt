@@ -5,6 +5,7 @@
 mod fault;
 mod item;
 mod memory;
+mod opening;
 mod page;
 mod pages;
 
