@@ -1,0 +1,3 @@
+pub mod AnswersLaws
+pub mod OpeningLaws
+pub mod PagesLaws

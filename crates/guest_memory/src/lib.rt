@@ -1,0 +1,13 @@
+//! A guest's private memory as the guest may rely on it, apart from the machine: what its own events find there and leave
+//! there.
+#![tactic(auto)]
+
+mod fault;
+mod item;
+mod memory;
+mod opening;
+mod page;
+mod pages;
+
+pub use fault::ApplyFault;
+pub use memory::GuestMemory;
