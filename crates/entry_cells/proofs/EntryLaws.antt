@@ -1,5 +1,5 @@
 -- Lists of pairs of actor and entry, and lists read by place.
-use Rattle.std.proofs.Common.{◌≡◌, ◌≢◌, ◌⊎◌, ℕ, zero, suc, ◌+◌, ◌<◌, Bool, true, false, ◌==◌, List, [], ◌∷◌, ◌++◌, map, length, get_or, set, replicate, slice_index, Option, Some, None, unwrap_or, sym, refl, ap, ◌∙◌, subst, inl, inr, ⊎_elim, append_assoc, append-nil, get_or-set_other, get_or-set_same, arith}
+use Rattle.std.proofs.Common.{◌≡◌, ◌≢◌, ◌⊎◌, ℕ, zero, suc, ◌+◌, ◌<◌, Bool, true, false, ◌==◌, List, [], ◌∷◌, ◌++◌, map, length, get_or, set, replicate, slice_index, Option, Some, None, unwrap_or, sym, refl, ap, ◌∙◌, subst, inl, inr, ⊎_elim, append_assoc, append-nil, true≢false, get_or-set_other, get_or-set_same, arith}
 use mathlib.Core.Option.{some, none, some-injective, some-ne-none}
 use lib.ListN.{get_elem?}
 use prog.Atomic.{either}
@@ -73,3 +73,6 @@ index_else l k j x ne = get_or-set_other l k j x 0 ne
 -- an actor's own entries, after it has added some
 pub own_more : {E : Type 0} (a : ℕ) (log seen : List (ℕ × E)) (mine es : List E) → log ≡ seen ++ all_of a es → entries_of a seen ≡ mine → entries_of a log ≡ mine ++ es
 own_more a log seen mine es e own = ap (entries_of a) e ∙ entries_append a seen (all_of a es) ∙ ap (λ us. us ++ entries_of a (all_of a es)) own ∙ ap (λ us. mine ++ us) (entries_same a es)
+
+pub nothing_held : (m k : ℕ) → get_elem? (replicate m false) k ≡ some true → ⊥
+nothing_held m k e = true≢false (sym (at_replicated m false true k e))

@@ -1,11 +1,14 @@
 -- What clauses see of cells and of passes, and what a call does to a pass. This project's own.
-use Rattle.std.specs.Prelude.{◌≡◌, ◌≢◌, ℕ, ◌+◌, ◌<◌, ◌≤◌, List, [], Option, Some, None}
+use Rattle.std.specs.Prelude.{◌≡◌, ◌≢◌, ℕ, ◌+◌, ◌<◌, ◌≤◌, false, List, [], length, replicate, Option, Some, None}
+use mathlib.Core.Option.{some}
+use lib.ListN.{get_elem?}
 use Rattle.atomic_table.specs.Seated.{TableId}
 use Rattle.atomic_table.specs.Table.{Me}
-use Rattle.entry_cells.specs.Entries.{entries_of}
+use Rattle.entry_cells.specs.Entries.{entries_of, BeginsWith}
 use Rattle.entry_cells.specs.Views.{Holds, Grows, took, refused}
-use Rattle.entry_cells.specs.Rule.{Lies}
+use Rattle.entry_cells.specs.Rule.{Lies, AbsorbedOk}
 use Rattle.entry_cells.specs.declared.board.View.{View}
+use Rattle.entry_cells.specs.declared.board.Absorbed.{Absorbed}
 use Rattle.entry_cells.specs.declared.board.Lodged.{Lodged}
 
 -- which table it is, how many cells it has beside the journal, its actors, and the journal's opening
@@ -58,6 +61,18 @@ module _ {T J O E : Type 0} (legal : O → List (ℕ × E) → Type 0) (stands :
     pub holds : Holds (took v k log) k
     pub lies : Lies stands opening list n c log k y
 
+  -- each slot holds its cell's part of the journal
+  abbrev pub Laid : List (ℕ × E) → List (Option (Lodged T J)) → Type 0
+  Laid log slots = (k : ℕ) → k < n + 1 → (y : Lodged T J) × (get_elem? slots k ≡ some (Some y)) × Lies stands opening list n c log k y
+
+  -- what is found when the table is closed by a pass with the view v
+  pub record Closes (v : View O E) (slots : List (Option (Lodged T J))) : Type 0 where
+    pub log : List (ℕ × E)
+    pub legal_log : legal c log
+    pub laid : Laid log slots
+    pub own : BeginsWith v.seen log × (entries_of v.actor log ≡ v.mine)
+    pub others : (p : ℕ) (x : Absorbed E) → get_elem? v.taken_in p ≡ some x → AbsorbedOk log x
+
 -- the cell k was found with the pass r
 pub record Refuses {S O E : Type 0} (me : Me S (View O E)) (k r : ℕ) (after : Me S (View O E)) : Type 0 where
   pub view : after.0 ≡ refused me.0 k r
@@ -69,3 +84,28 @@ module _ {O E : Type 0} where
   -- the pass is of these cells
   abbrev pub IsPassOf : CellsView O → PassView O E → Type 0
   IsPassOf cells pass = (pass.table ≡ cells.table) × (pass.view.opening ≡ Some cells.opening)
+
+  -- the pass of the actor a before its first call, among n cells
+  pub record IsNew (n a : ℕ) (c : O) (v : View O E) : Type 0 where
+    pub actor : v.actor ≡ a
+    pub live : v.opening ≡ Some c
+    pub seen : v.seen ≡ []
+    pub mine : v.mine ≡ []
+    pub held : v.held ≡ replicate (n + 1) false
+    pub refusals : v.refusals ≡ []
+
+  -- the pass holds no cell, nor the journal
+  abbrev pub HoldsNothing : View O E → Type 0
+  HoldsNothing v = (k : ℕ) → Holds v k → ⊥
+
+  -- these are passes of the cells, and none holds a cell
+  abbrev pub AreIdle : CellsView O → List (PassView O E) → Type 0
+  AreIdle cells passes = (i : ℕ) (p : PassView O E) → get_elem? passes i ≡ some p → IsPassOf cells p × HoldsNothing p.view
+
+  -- there is a pass of each actor
+  abbrev pub AreAll : ℕ → List (PassView O E) → Type 0
+  AreAll actors passes = (a : ℕ) → 0 < a → a ≤ actors → (i : ℕ) × (p : PassView O E) × (get_elem? passes i ≡ some p) × (p.view.actor ≡ a)
+
+  -- what a pass has seen begins the journal, and its actor's entries there are those that it has added
+  abbrev pub Shown : List (ℕ × E) → View O E → Type 0
+  Shown log v = BeginsWith v.seen log × (entries_of v.actor log ≡ v.mine)

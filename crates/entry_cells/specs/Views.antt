@@ -1,5 +1,5 @@
 -- What a pass knows, and how a step changes it. This project's own.
-use Rattle.std.specs.Prelude.{◌≡◌, ℕ, ◌+◌, ◌<◌, Bool, true, false, List, [], ◌∷◌, ◌++◌, slice_set, replicate, Option, Some, None}
+use Rattle.std.specs.Prelude.{◌≡◌, ℕ, ◌+◌, ◌<◌, Bool, true, false, List, [], ◌∷◌, ◌++◌, slice_set, length, replicate, Option, Some, None}
 use mathlib.Core.Option.{some}
 use lib.ListN.{get_elem?}
 use Rattle.entry_cells.specs.Entries.{Untouched, entries_of, all_of}
@@ -47,9 +47,9 @@ module _ {O E : Type 0} where
   abbrev pub making : View O E → View O E
   making v = record v { made = v.made + 1 }
 
-  -- the pass that it makes, among n cells
-  abbrev pub newcomer : ℕ → View O E → View O E
-  newcomer n v = record { actor = v.made + 1; opening = v.opening; seen = v.seen; mine = []; held = replicate (n + 1) false; refusals = []; out = None; made = 0; taken_in = [] }
+  -- the pass that it makes
+  abbrev pub newcomer : View O E → View O E
+  newcomer v = record { actor = v.made + 1; opening = v.opening; seen = v.seen; mine = []; held = replicate (length v.held) false; refusals = []; out = None; made = 0; taken_in = [] }
 
   abbrev pub absorbed : View O E → Absorbed E
   absorbed v = record { actor = v.actor; seen = v.seen; mine = v.mine }

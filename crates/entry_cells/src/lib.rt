@@ -3,7 +3,9 @@
 #![tactic(auto)]
 
 mod board;
+mod build;
 mod cells;
+mod close;
 mod journal;
 mod plays;
 mod steps;

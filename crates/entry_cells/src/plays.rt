@@ -45,3 +45,25 @@ impl<T, J, O, E> Play<Option<Lodged<T, J>>, View<O, E>> for Open {
 
     ghost then = { opens };
 }
+
+// The first pass makes one more.
+pub(crate) struct Make;
+
+impl<O, E> Split<View<O, E>> for Make {
+    ghost use Rattle.entry_cells.specs.Views.{making, newcomer};
+
+    ghost left = { making };
+
+    ghost right = { newcomer };
+}
+
+// A pass is closed into another.
+pub(crate) struct Absorb;
+
+impl<O, E> Join<View<O, E>> for Absorb {
+    ghost use Rattle.entry_cells.specs.Views.{absorbing, spent};
+
+    ghost both = { absorbing };
+
+    ghost spent = { spent };
+}
