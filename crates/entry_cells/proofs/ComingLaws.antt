@@ -11,7 +11,7 @@ use Rattle.atomic_table.proofs.Lists.{at_set, set_here, set_else, at_longer, at_
 use Rattle.entry_cells.specs.Entries.{Untouched, entries_of, BeginsWith}
 use Rattle.entry_cells.specs.Views.{Holds, opener, making, newcomer, absorbing, absorbed, spent}
 use Rattle.entry_cells.specs.Rule.{Lies, ViewOk, Live, Fresh, HeldBy, Away, AtHome, Sound, AbsorbedOk}
-use Rattle.entry_cells.specs.Passes.{Laid, Closes, HoldsNothing}
+use Rattle.entry_cells.specs.Passes.{Laid, Closes, HoldsNothing, TookAll}
 use Rattle.entry_cells.specs.declared.board.View.{View}
 use Rattle.entry_cells.specs.declared.board.Absorbed.{Absorbed}
 use Rattle.entry_cells.specs.declared.board.Lodged.{Lodged}
@@ -243,11 +243,7 @@ module _ {T J O E : Type 0} (legal : O → List (ℕ × E) → Type 0) (stands :
               ⊎_elim (λ t. inl t) (λ t. inr (ap (λ (z : View O E). z.out) (sym is) ∙ t)) hb.3)))
           (λ far. (i, u, ((set_else vs other i spent apart ∙ set_else s.views id i both far ∙ hb.0.0, hb.0.1), hb.1, hb.2, hb.3)))
 
-  -- v has taken in the passes of all other actors
-  abbrev pub TookAll : View O E → Type 0
-  TookAll v = (a : ℕ) → 0 < a → a ≤ actors → (v.actor ≡ a) ⊎ ((p : ℕ) × (x : Absorbed E) × (get_elem? v.taken_in p ≡ some x) × (x.actor ≡ a))
-
-  pub closes : (id : ℕ) (v : View O E) (ws : List ℕ) (xs : List S) → v.opening ≡ Some c → HoldsNothing v → TookAll v → Final (Seen Good id v) ws xs → Closes legal stands touches opening list n c v xs
+  pub closes : (id : ℕ) (v : View O E) (ws : List ℕ) (xs : List S) → v.opening ≡ Some c → HoldsNothing v → TookAll actors v → Final (Seen Good id v) ws xs → Closes legal stands touches opening list n c v xs
   closes id v ws xs live idle all f = let s = f.0 in let r : Good s = f.1.0 in let lv : Live c s id v = (f.1.1, live) in let o = r.views_ok id v lv in record {
     log = r.log;
     legal_log = r.legal_log;

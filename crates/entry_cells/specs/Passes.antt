@@ -1,11 +1,11 @@
 -- What clauses see of cells and of passes, and what a call does to a pass. This project's own.
-use Rattle.std.specs.Prelude.{◌≡◌, ◌≢◌, ℕ, ◌+◌, ◌<◌, ◌≤◌, false, List, [], length, replicate, Option, Some, None}
+use Rattle.std.specs.Prelude.{◌≡◌, ◌≢◌, ◌⊎◌, ℕ, ◌+◌, ◌<◌, ◌≤◌, false, List, [], length, replicate, Option, Some, None}
 use mathlib.Core.Option.{some}
 use lib.ListN.{get_elem?}
 use Rattle.atomic_table.specs.Seated.{TableId}
 use Rattle.atomic_table.specs.Table.{Me}
 use Rattle.entry_cells.specs.Entries.{entries_of, BeginsWith}
-use Rattle.entry_cells.specs.Views.{Holds, Grows, took, refused}
+use Rattle.entry_cells.specs.Views.{Holds, Grows, took, refused, absorbed}
 use Rattle.entry_cells.specs.Rule.{Lies, AbsorbedOk}
 use Rattle.entry_cells.specs.declared.board.View.{View}
 use Rattle.entry_cells.specs.declared.board.Absorbed.{Absorbed}
@@ -109,3 +109,19 @@ module _ {O E : Type 0} where
   -- what a pass has seen begins the journal, and its actor's entries there are those that it has added
   abbrev pub Shown : List (ℕ × E) → View O E → Type 0
   Shown log v = BeginsWith v.seen log × (entries_of v.actor log ≡ v.mine)
+
+  -- the passes of the actors from 1 on, in their order, before their first calls
+  abbrev pub AreNew : CellsView O → List (PassView O E) → Type 0
+  AreNew cells passes = (i : ℕ) (p : PassView O E) → get_elem? passes i ≡ some p → (p.table ≡ cells.table) × IsNew cells.cells (i + 1) cells.opening p.view
+
+  -- w was closed into v
+  abbrev pub Absorbs : View O E → View O E → Type 0
+  Absorbs v w = (p : ℕ) × (get_elem? v.taken_in p ≡ some (absorbed w))
+
+  -- v is w, or w was closed into it
+  abbrev pub Knows : View O E → View O E → Type 0
+  Knows v w = (absorbed w ≡ absorbed v) ⊎ Absorbs v w
+
+  -- the passes of all other actors were closed into v
+  abbrev pub TookAll : ℕ → View O E → Type 0
+  TookAll actors v = (a : ℕ) → 0 < a → a ≤ actors → (v.actor ≡ a) ⊎ ((p : ℕ) × (x : Absorbed E) × (get_elem? v.taken_in p ≡ some x) × (x.actor ≡ a))

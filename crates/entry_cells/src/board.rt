@@ -49,6 +49,7 @@ pub(crate) enum Lodged<T, J> {
 }
 
 // What the table is made with: the journal as it was then, the number of cells, and that of passes.
+#[derive(Drop)]
 pub(crate) struct About<J> {
     pub(crate) journal: Snapshot<J>,
     pub(crate) cells: usize,
