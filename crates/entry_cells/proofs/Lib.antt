@@ -1,0 +1,4 @@
+pub mod EntryLaws
+pub mod Settling
+pub mod StepLaws
+pub mod ComingLaws
