@@ -126,8 +126,116 @@ def run_brief(options: argparse.Namespace) -> int:
     return 0
 
 
+# test
+
+TEST = """Runs scenarios that say in comment lines what they must report, and compares. The output is TAP; the exit status is 0
+where all is as expected, 1 where something isn't, and 2 where nothing could be run.
+
+    # expect 5 1 0.0 data 0x0:2 8 p store     this line must stand in the report
+    # expect * 1 1.0 data ... npf 0x58*       `*` is a word or a part of one, `...` is any words
+    # expect no ... pf *                      no line like it may stand there
+    # expect 2 times ... npf *                as many lines must be like it
+    # expect guest 1 running -                a guest's line
+    # expect status 8                         the exit status, 0 where none is said
+    # expect error schedule 6 1               the error line of a refusal
+"""
+
+
+def add_test(commands: 'argparse._SubParsersAction[Parser]', name: str) -> None:
+    made = add_command(commands, name, 'scenarios that say what they must report, run and compared', TEST, run_test)
+    made.add_argument('files', nargs='+', metavar='FILE')
+    made.add_argument('--program', metavar='PATH', help=PROGRAM_HELP)
+
+
+def run_test(options: argparse.Namespace) -> int:
+    from .expect import run_cases
+    from .program import program_from
+    one_standard_input(options.files)
+    return run_cases(options.files, program_from(options.program))
+
+
+# write
+
+WRITE = """Makes a plain scenario of a short one, which stands in the comments of what comes out.
+
+    map 1 root 1: 0x0..0x7 -> 64..71      nested tables of guest 1 from frame 1 on; the tables between take frames that no
+                                          line names; `read-only` may end the line
+    frame decoy 9                         names frame 9; without a number, a frame that no other line names
+    guest 1 opened asid 1                 counter 0 and a key of zeros
+    page 64..71 of 1 at 0x0               `4k valid 0 0 0`, for each of the frames
+    store leaf(1,0x0) entry(decoy)        leaf(ROOT,PAGE): address of the entry that maps a page; entry(FRAME): an entry that
+                                          leads there; addr(FRAME,INDEX): a word's address; private(PAGE), shared(PAGE):
+                                          entries of a guest's own tables
+    order 1! 1@data 2*3! 1!!              one item of actor 1; up to its next access; three items of actor 2; to the end of
+                                          actor 1's script; and `1`, `1*6` as in plain scenarios
+
+Lines may come in any order. `snp`, `regions` and `end` may be left out. Where the order is by items, `snp` is asked.
+"""
+
+
+def add_write(commands: 'argparse._SubParsersAction[Parser]', name: str) -> None:
+    made = add_command(commands, name, 'a plain scenario of a short one', WRITE, run_write)
+    made.add_argument('file', metavar='SHORT')
+    made.add_argument('--program', metavar='PATH', help=PROGRAM_HELP)
+
+
+def run_write(options: argparse.Namespace) -> int:
+    from .program import program_from
+    from .write import written
+    text = written(read_text(options.file), shown(options.file), lambda: program_from(options.program))
+    sys.stdout.write(text)
+    return 0
+
+
+# explore
+
+EXPLORE = """Runs all interleavings of a scenario's scripts, or random ones where there are too many, and tells which outcomes each
+item can have, with one schedule for each. The scenario's own `order` lines are passed over.
+
+    snp-lab explore SCENARIO
+    snp-lab explore --joint SCENARIO                                 also the outcomes of whole runs
+    snp-lab explore --until '* 1 1.0 data ... npf *' SCENARIO        a schedule whose report has a line like it
+
+Events that touch no word of memory in common give the same outcomes in any order, so of interleavings that differ by such
+events alone one is run; --full runs each. Ctrl-C ends a search with what was found. With --until the exit status is 1 where
+no run has such a line. Patterns are those of `test`; one that begins with `*` or `...` leaves the event's number open, and
+any other one makes the search full.
+"""
+
+
+def add_explore(commands: 'argparse._SubParsersAction[Parser]', name: str) -> None:
+    made = add_command(commands, name, 'all interleavings, and the outcomes that each item can have', EXPLORE, run_explore)
+    made.add_argument('scenario', metavar='SCENARIO')
+    made.add_argument('--most', type=int, default=20000, metavar='N', help='the most runs that are made to try all (20000); 0 for none')
+    made.add_argument('--random', type=int, default=1000, metavar='N', help='random runs beyond that (1000)')
+    made.add_argument('--seed', type=int, default=1, metavar='N', help='what the random runs are drawn from (1)')
+    made.add_argument('--seconds', type=float, metavar='S', help='ends the search after so long')
+    made.add_argument('--until', action='append', default=[], metavar='PATTERN', help='ends at a run with such a line; all, where several are given')
+    made.add_argument('--after', type=int, default=0, metavar='K', help='the first K events of the scenario\'s own order come first in each run')
+    made.add_argument('--joint', action='store_true', help='the outcomes of whole runs too')
+    made.add_argument('--full', action='store_true', help='each interleaving, also those that differ by commuting events alone')
+    made.add_argument('--jobs', type=int, metavar='N', help='how many processes run at once (one for each processor)')
+    made.add_argument('--program', metavar='PATH', help=PROGRAM_HELP)
+
+
+def run_explore(options: argparse.Namespace) -> int:
+    from .explore import Options, default_jobs, explore
+    from .program import program_from
+    for name in ('most', 'random', 'after'):
+        if getattr(options, name) < 0:
+            raise Complaint('--%s should be 0 or more' % name)
+    text = read_text(options.scenario)
+    program = program_from(options.program)
+    if program.is_unproved:
+        print('snp-lab: no proved program is built, so each run takes half a minute; `rt ci` builds one, and --program names another',
+              file=sys.stderr)
+    made = Options(options.most, options.random, options.seed, options.jobs or default_jobs(), options.full, options.joint,
+                   options.after, options.seconds, options.until)
+    return explore(program, text, shown(options.scenario), made)
+
+
 COMMANDS: Dict[str, Callable[['argparse._SubParsersAction[Parser]', str], None]] = {
-    'explain': add_explain, 'brief': add_brief,
+    'explain': add_explain, 'test': add_test, 'write': add_write, 'explore': add_explore, 'brief': add_brief,
 }
 
 

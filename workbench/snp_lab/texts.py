@@ -105,6 +105,11 @@ def number_of(word: str) -> Optional[int]:
     return value if value < 1 << 64 else None
 
 
+def decimal_of(word: str) -> Optional[int]:
+    """The number that a word is, where it is decimal."""
+    return int(word) if DECIMAL.match(word) else None
+
+
 def need_number(line: Line, word: str, what: str, least: int = 0, most: int = (1 << 64) - 1) -> int:
     """The number of a word that should be one, within its range."""
     value = number_of(word)
