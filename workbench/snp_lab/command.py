@@ -234,8 +234,34 @@ def run_explore(options: argparse.Namespace) -> int:
     return explore(program, text, shown(options.scenario), made)
 
 
+# view
+
+VIEW = """Prints a page of HTML that shows a report: a column for each actor, time downwards. It is one file and asks no network.
+
+    snp-lab view SCENARIO REPORT > page.html
+
+An attempt is one block, a lock a bar, and faults are marked. A click, or the arrow keys, shows an event with its words and its
+explanation. REPORT may be left out where the scenario's own `order` lines are to be replayed.
+"""
+
+
+def add_view(commands: 'argparse._SubParsersAction[Parser]', name: str) -> None:
+    made = add_command(commands, name, 'a report as a page of HTML', VIEW, run_view)
+    made.add_argument('scenario', metavar='SCENARIO')
+    made.add_argument('report', metavar='REPORT', nargs='?')
+    made.add_argument('--program', metavar='PATH', help=PROGRAM_HELP)
+
+
+def run_view(options: argparse.Namespace) -> int:
+    from .view import page_of_report
+    names = [options.scenario] + ([options.report] if options.report is not None else [])
+    sys.stdout.write(page_of_report(*pair(names, options.program)))
+    return 0
+
+
 COMMANDS: Dict[str, Callable[['argparse._SubParsersAction[Parser]', str], None]] = {
-    'explain': add_explain, 'test': add_test, 'write': add_write, 'explore': add_explore, 'brief': add_brief,
+    'explain': add_explain, 'test': add_test, 'write': add_write, 'explore': add_explore, 'view': add_view,
+    'brief': add_brief,
 }
 
 
