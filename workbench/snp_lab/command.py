@@ -151,7 +151,7 @@ def run_test(options: argparse.Namespace) -> int:
     from .expect import run_cases
     from .program import program_from
     one_standard_input(options.files)
-    return run_cases(options.files, program_from(options.program))
+    return run_cases(options.files, lambda: program_from(options.program))
 
 
 # write

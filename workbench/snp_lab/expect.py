@@ -3,7 +3,7 @@ from __future__ import annotations
 
 import re
 from dataclasses import dataclass, field
-from typing import List, Optional, Tuple
+from typing import Callable, List, Optional, Tuple
 
 from .codes import refusal_words
 from .patterns import pattern_of
@@ -111,9 +111,10 @@ def results(case: Case, program: Program) -> List[Tuple[Expectation, Optional[st
     return [(made, made.fault(answer)) for made in case.expectations]
 
 
-def run_cases(names: List[str], program: Program) -> int:
+def run_cases(names: List[str], make: Callable[[], Program]) -> int:
     """Runs files and prints TAP; the exit status is 1 where an expectation isn't met."""
     cases = [read_case(name) for name in names]
+    program = make()
     print('TAP version 13')
     print('1..%d' % sum(len(case.expectations) for case in cases))
     number, failed = 0, 0

@@ -45,7 +45,7 @@ class Program:
         except OSError as fault:
             raise Complaint('the program can\'t be run: %s' % (fault.strerror or 'unknown').lower(), self.path) from None
         output = ended.stdout.decode('utf-8', 'replace')
-        if ended.returncode < 0 or not output and ended.returncode not in (0, 1, 5, 6, 7):
+        if ended.returncode < 0 or not output and ended.returncode not in (1, 5, 6, 7):
             said = ended.stderr.decode('utf-8', 'replace').strip().split('\n')[-1]
             raise Complaint('the program answered nothing, and ended with %d%s'
                             % (ended.returncode, ': ' + said if said else ''), self.path)

@@ -166,10 +166,12 @@ class Search:
         last: Dict[int, Event] = {event.actor: event for event in played.events[:len(node.before)]}
         branches: List[Node] = []
         for event in played.events[len(node.before):]:
-            if event.actor in asleep:
-                return None, branches
             open_ones = [actor for actor, one in self.scenario.actors.items() if one.items and actor not in asleep
                          and actor != event.actor and (actor not in last or not self.is_finished(last[actor]))]
+            if event.actor in asleep:  # from here on the run repeats another; whoever woke up meanwhile goes on in its stead
+                if open_ones:
+                    branches.append(Node(played.schedule[:event.number], open_ones[0], tuple(asleep.items())))
+                return None, branches
             touch = touch_of(event) if self.reduce else EVERYTHING
             if open_ones:
                 others = tuple(asleep.items()) + ((event.actor, touch),)

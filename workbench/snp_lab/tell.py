@@ -47,6 +47,8 @@ def bits_words(word: int, names: Tuple[Tuple[int, str], ...]) -> str:
     return ', '.join(name if word >> place & 1 else 'not ' + name for place, name in names)
 
 
+# How an access ends that is let through.
+ANSWERS = {'load': 'load', 'store': 'store', 'swap': 'swap', 'xor': 'swap', 'cas': 'cas'}
 NESTED_NAMES = ((0, 'present'), (1, 'writable'), (2, 'user'))
 GUEST_NAMES = ((0, 'present'), (1, 'writable'))
 
@@ -148,7 +150,7 @@ class Teller:
                 '`%s`' % ' '.join(expected) if expected else 'let through')
             return None
         if row is None:
-            return self.origin(event, item)
+            return self.origin(told, event, item)
         return row, self.check_words(row, facts, event, actor, item)
 
     def private_row(self, facts: Facts, gpn: int, leaf_is_large: bool, actor: Actor, is_write: bool, is_read: bool) -> Optional[Row]:
@@ -193,8 +195,12 @@ class Teller:
             return '%s, and %s' % (entry, 'the access writes' if item.writes else 'the access loads: what a machine would show is no word of the guest')
         return entry
 
-    def origin(self, event: Event, item: Item) -> Optional[Decision]:
+    def origin(self, told: Told, event: Event, item: Item) -> Optional[Decision]:
         """Where a word that was read comes from."""
+        if event.kind == 'gpt':
+            return None
+        if event.outcome[0] != ANSWERS.get(item.word):
+            told.misfit = '`%s` doesn\'t end so: report and scenario don\'t belong together' % item.word
         if event.outcome[0] not in ('load', 'swap', 'cas'):
             return None
         key = (event.frame, event.place[1])

@@ -84,7 +84,7 @@
     cell.setAttribute('aria-selected', k === chosen);
     cell.setAttribute('aria-label', 'event ' + k + ', actor ' + data.actors[event.column].number + ', item ' + event.item + ': ' + event.deed
       + ['', ', refused or hidden', ', fault'][event.mark]);
-    cell.title = lines[k];
+    cell.title = k + ' ' + lines[k];
     if (event.mark) { cell.classList.add(event.mark === 2 ? 'fault' : 'refusal'); }
     if (matched.has(k)) { cell.classList.add('match'); }
     if (k === chosen) { cell.classList.add('chosen'); }
@@ -134,7 +134,7 @@
 
   function layout() {
     const room = time.clientWidth - NUMBER;
-    width = Math.max(190, Math.floor(room / Math.max(1, data.actors.length)));
+    width = Math.max(220, Math.floor(room / Math.max(1, data.actors.length)));
     heads.replaceChildren(head('event', '', NUMBER), ...data.actors.map((actor) => head('actor ' + actor.number, actor.title, width)));
     heads.style.width = left(data.actors.length) + 'px';
     canvas.style.width = left(data.actors.length) + 'px';
@@ -150,14 +150,16 @@
   }
 
   function term(list, name, text) {
-    list.append(element('dt', '', name), element('dd', '', text));
+    const names = list.querySelectorAll('dt');
+    if (!names.length || names[names.length - 1].textContent !== name) { list.append(element('dt', '', name)); }
+    list.append(element('dd', '', text));
   }
 
   function show(k) {
     const event = events[k], actor = data.actors[event.column], box = byId('chosen');
     byId('chosen-title').textContent = 'Event ' + k;
     const line = element('p');
-    line.append(element('code', '', lines[k]));
+    line.append(element('code', '', k + ' ' + lines[k]));
     const list = element('dl');
     term(list, 'actor', actor.number + ', ' + actor.title);
     term(list, 'item', event.item + ' `' + (actor.items[event.item] || '?') + '`' + (event.attempt ? ', attempt ' + event.attempt : ''));
@@ -280,4 +282,5 @@
   const asked = /^#e(\d+)$/.exec(location.hash);
   if (asked) { choose(Number(asked[1])); } else if (events.length) { choose(faults.length ? faults[0] : 0); }
   document.body.dataset.ready = events.length;
+  document.body.dataset.milliseconds = Math.round(performance.now());
 })();
