@@ -4,9 +4,13 @@ from __future__ import annotations
 import argparse
 import os
 import sys
-from typing import Callable, Dict, List, NoReturn, Optional
+from typing import TYPE_CHECKING, Callable, Dict, List, NoReturn, Optional, Tuple
 
 from .texts import Complaint, read_text, shown
+
+if TYPE_CHECKING:
+    from .report import Report
+    from .scenario import Scenario
 
 FAILED = 1
 COMPLAINED = 2
@@ -92,7 +96,7 @@ def explain_run(options: argparse.Namespace) -> int:
     return 0
 
 
-def pair(names: List[str], program: Optional[str]) -> 'tuple[Scenario, Report]':
+def pair(names: List[str], program: Optional[str]) -> 'Tuple[Scenario, Report]':
     """A scenario and its report, which the program is asked for where it isn't given."""
     from .program import program_from, report_or_fail
     from .report import parse as parse_report

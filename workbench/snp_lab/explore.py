@@ -308,6 +308,8 @@ class Explorer:
         return total
 
     def summary(self) -> str:
+        if not self.first_counts:
+            return 'stopped before the first run had ended'
         total = self.total()
         about = 'about %d interleavings' % total if total < 10 ** 9 else 'about 10^%d interleavings' % (len(str(total)) - 1)
         runs = '%d run%s' % (self.found.runs, '' if self.found.runs == 1 else 's')

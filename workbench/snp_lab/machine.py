@@ -6,7 +6,7 @@ determine is None.
 from __future__ import annotations
 
 from dataclasses import dataclass, field, replace
-from typing import Dict, List, Optional, Tuple
+from typing import Any, Dict, List, Optional, Tuple
 
 from .report import Event
 from .scenario import Actor, Item, Scenario
@@ -173,10 +173,10 @@ class Watch:
                 below = below - below % LARGE + (item.operands[0] >> 12) % LARGE
         attempt.gpn, attempt.level, attempt.leaf_is_large = below, 4, False
 
-    def change(self, frames: List[int], **fields: object) -> None:
+    def change(self, frames: List[int], **fields: Any) -> None:
         for frame in frames:
             facts = self.facts_of(frame)
-            self.facts[frame] = None if facts is None else replace(facts, **fields)  # type: ignore[arg-type]
+            self.facts[frame] = None if facts is None else replace(facts, **fields)
 
     def commit(self, event: Event) -> None:
         """What a commit changes of entries and guests, by the tables of docs/MODEL.md."""

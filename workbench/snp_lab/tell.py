@@ -40,7 +40,7 @@ class Told:
 
 
 def nested_index(gpn: int, level: int) -> int:
-    return gpn // 512 ** (level - 1) % 512
+    return (gpn >> 9 * (level - 1)) % 512
 
 
 def bits_words(word: int, names: Tuple[Tuple[int, str], ...]) -> str:

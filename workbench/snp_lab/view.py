@@ -39,10 +39,9 @@ def data_of(scenario: Scenario, report: Report) -> Dict[str, object]:
         told = teller.tell(event)
         told_places.append(texts.setdefault(told_text(told), len(texts)))
         marks.append(mark_of(event, told))
-    actors = [{'number': actor.number, 'title': actor.title, 'items': [item.text for item in actor.items]}
-              for actor in scenario.actors.values()]
-    known = {actor['number'] for actor in actors}
-    missing = sorted({event.actor for event in report.events} - known)
+    actors: List[Dict[str, object]] = [{'number': actor.number, 'title': actor.title, 'items': [item.text for item in actor.items]}
+                                       for actor in scenario.actors.values()]
+    missing = sorted({event.actor for event in report.events} - set(scenario.actors))
     actors += [{'number': number, 'title': 'not in this scenario', 'items': []} for number in missing]
     return {'actors': actors, 'events': [event.rest for event in report.events], 'marks': marks, 'told': told_places,
             'texts': list(texts), 'guests': ['guest %d %s' % (number, state) for number, (state, _) in report.guests.items()]}
