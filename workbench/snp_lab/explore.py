@@ -18,7 +18,9 @@ from .runs import Node, Played, Search
 from .scenario import order_lines, parse, runs_of, without_order
 from .texts import Complaint
 
+# How much a process does before it tells what it found.
 BATCH = 24
+SECONDS_OF_BATCH = 0.5
 PASSED_OVER = 'passed over'
 Rank = Tuple[int, bytes]
 Key = Tuple[int, int]
@@ -119,11 +121,12 @@ def start_worker(search: Search, goal: Optional[Goal]) -> None:
 
 
 def work(nodes: List[Node], budget: int) -> Tuple[Found, List[Node]]:
-    """Runs branches, the newest first, as often as the budget says; what was found, and the branches that are left."""
+    """Runs branches, the newest first, as often as the budget says and for a short time; what was found, and what is left."""
     search, goal = SHARED['search'], SHARED['goal']
     assert isinstance(search, Search)
     found = Found()
-    while nodes and found.runs + found.repeats < budget and found.hit is None:
+    start = time.monotonic()
+    while nodes and found.runs + found.repeats < budget and found.hit is None and time.monotonic() - start < SECONDS_OF_BATCH:
         played, branches = search.visit(nodes.pop())
         nodes += branches
         note(search, found, goal, played)
@@ -275,7 +278,7 @@ class Explorer:
     def at_random(self, pool: Optional[ProcessPoolExecutor], progress: Progress, start: float) -> None:
         """Random interleavings, where there are more than the most."""
         seeds = ['%d.%d' % (self.options.seed, k) for k in range(self.options.random)]
-        batches = [seeds[k:k + BATCH] for k in range(0, len(seeds), BATCH)]
+        batches = [seeds[k:k + BATCH // 4] for k in range(0, len(seeds), BATCH // 4)]
         before = self.found.runs
         if pool is None:
             for batch in batches:

@@ -2,14 +2,16 @@
 
 A search is a tree: a node is a schedule's beginning, and each actor that isn't finished there makes a branch. Two events
 that touch no word in common, or only read it, commute: both orders give the same outcomes. So an actor that was tried at a
-node sleeps in the branches of the others, until an event comes that its own next event doesn't commute with (sleep sets). Of
-interleavings that differ by commuting events alone one is run. An event that locks or commits commutes with nothing here.
+node sleeps in the branches of the others, until an event comes that its own next event doesn't commute with (sleep sets). And
+an event that commutes with all that the others' scripts may still do goes first, with no branch beside it (persistent sets of
+one actor). Of interleavings that differ by commuting events alone one is run.
 """
 from __future__ import annotations
 
 import random
+from collections import deque
 from dataclasses import dataclass, field
-from typing import Dict, FrozenSet, List, Optional, Tuple
+from typing import Deque, Dict, List, Optional, Set, Tuple
 
 from . import report
 from .codes import refusal_words
@@ -17,43 +19,9 @@ from .program import Program
 from .report import Event
 from .scenario import ORDER_LIMIT, Scenario, order_lines, runs_of
 from .texts import Complaint
+from .touches import EVERYTHING, Bound, Touch, assigned_frames, bounds_of, touch_of
 
 EVENTS_OF_ATTEMPT = 32
-Place = Tuple[int, int]
-
-
-@dataclass(frozen=True)
-class Touch:
-    """The words of memory that an event reads and writes; `everything` where it may touch entries, locks or contexts."""
-    reads: FrozenSet[Place] = frozenset()
-    writes: FrozenSet[Place] = frozenset()
-    everything: bool = False
-
-    def commutes(self, other: 'Touch') -> bool:
-        if self.everything or other.everything:
-            return False
-        return not (self.writes & (other.reads | other.writes) or other.writes & self.reads)
-
-
-NOTHING = Touch()
-EVERYTHING = Touch(everything=True)
-
-
-def touch_of(event: Event) -> Touch:
-    """What an event touched."""
-    if event.kind in ('begin', 'skip'):
-        return NOTHING
-    if event.kind not in ('npt', 'gpt', 'data', 'host'):
-        return EVERYTHING
-    here = frozenset([(event.frame, event.place[1])])
-    if event.kind == 'npt' or event.kind == 'gpt':
-        return NOTHING if event.deed[-1] == '-' else Touch(reads=here)
-    name = event.outcome[0]
-    if name == 'store':
-        return Touch(writes=here)
-    if name == 'swap' or name == 'cas' and event.outcome[2] == 'yes':
-        return Touch(here, here)
-    return Touch(reads=here) if name in ('load', 'cas') else NOTHING
 
 
 @dataclass(frozen=True)
@@ -80,6 +48,14 @@ class Search:
     head: List[str]
     reduce: bool = True
     totals: Dict[int, int] = field(default_factory=dict)
+    bounds: Dict[int, List[Bound]] = field(default_factory=dict)
+    assigned: Set[int] = field(default_factory=set)
+    has_firmware: bool = False
+
+    def __post_init__(self) -> None:
+        self.bounds = bounds_of(self.scenario)
+        self.assigned = assigned_frames(self.scenario)
+        self.has_firmware = any(actor.role == 'fw' for actor in self.scenario.actors.values())
 
     def ask(self, schedule: bytes) -> Tuple[Optional[report.Report], int]:
         """The report of a schedule, or the entry of it that names a finished actor."""
@@ -154,6 +130,15 @@ class Search:
                 return Played(schedule, found.events, found.lines)
             behind += [left[0]] * self.bound(left[0])
 
+    def touch(self, event: Event) -> Touch:
+        return touch_of(event, self.has_firmware) if self.reduce else EVERYTHING
+
+    def goes_first(self, event: Event, items: Dict[int, int]) -> bool:
+        """Whether an event commutes with all that the other actors may still do, each from the item on that it is at."""
+        touch = self.touch(event)
+        return self.reduce and all(self.bounds[actor][min(item, len(self.bounds[actor]) - 1)].commutes(touch, self.assigned)
+                                   for actor, item in items.items() if actor != event.actor)
+
     def visit(self, node: Node) -> Tuple[Optional[Played], List[Node]]:
         """Runs a branch to its end; the branches that are to be tried besides. There is no run where it only repeats another."""
         asleep = dict(node.asleep)
@@ -163,19 +148,53 @@ class Search:
         if node.actor is not None:
             awake = [node.actor] + [actor for actor in awake if actor != node.actor]
         played = self.complete(before, awake)
-        last: Dict[int, Event] = {event.actor: event for event in played.events[:len(node.before)]}
+        path = Path(self, played.events[len(node.before):], played.events[:len(node.before)], node.before)
         branches: List[Node] = []
-        for event in played.events[len(node.before):]:
-            open_ones = [actor for actor, one in self.scenario.actors.items() if one.items and actor not in asleep
-                         and actor != event.actor and (actor not in last or not self.is_finished(last[actor]))]
+        while path.left:
+            event, is_alone = path.next_event(forced=node.actor is not None and len(path.schedule) == len(node.before))
+            open_ones = [actor for actor in path.unfinished() if actor not in asleep and actor != event.actor]
             if event.actor in asleep:  # from here on the run repeats another; whoever woke up meanwhile goes on in its stead
-                if open_ones:
-                    branches.append(Node(played.schedule[:event.number], open_ones[0], tuple(asleep.items())))
+                if open_ones and not is_alone:
+                    branches.append(Node(bytes(path.schedule), open_ones[0], tuple(asleep.items())))
                 return None, branches
-            touch = touch_of(event) if self.reduce else EVERYTHING
-            if open_ones:
-                others = tuple(asleep.items()) + ((event.actor, touch),)
-                branches.append(Node(played.schedule[:event.number], open_ones[0], others))
+            touch = self.touch(event)
+            if open_ones and not is_alone:
+                branches.append(Node(bytes(path.schedule), open_ones[0], tuple(asleep.items()) + ((event.actor, touch),)))
             asleep = {actor: other for actor, other in asleep.items() if other.commutes(touch)}
-            last[event.actor] = event
+            path.take(event)
         return played, branches
+
+
+class Path:
+    """The events of a run one after the other, where one that commutes with all that may come goes before its place."""
+
+    def __init__(self, search: Search, events: List[Event], before: List[Event], schedule: bytes) -> None:
+        self.search = search
+        self.schedule = bytearray(schedule)
+        self.left: Deque[Event] = deque(events)
+        self.own: Dict[int, Deque[Event]] = {actor: deque() for actor in search.scenario.actors}
+        for event in events:
+            self.own[event.actor].append(event)
+        self.taken: Set[int] = set()
+        self.items: Dict[int, int] = {actor: 0 for actor in search.scenario.actors}
+        for event in before:
+            self.items[event.actor] = search.next_item(event)
+
+    def next_event(self, forced: bool) -> Tuple[Event, bool]:
+        """The next event, and whether it goes first, so that no other one has to be tried in its place."""
+        if not forced:
+            for queue in self.own.values():
+                if queue and self.search.goes_first(queue[0], self.items):
+                    return queue[0], True
+        return self.left[0], False
+
+    def unfinished(self) -> List[int]:
+        return [actor for actor, queue in self.own.items() if queue]
+
+    def take(self, event: Event) -> None:
+        self.schedule.append(event.actor)
+        self.own[event.actor].popleft()
+        self.items[event.actor] = self.search.next_item(event)
+        self.taken.add(event.number)
+        while self.left and self.left[0].number in self.taken:
+            self.left.popleft()

@@ -134,7 +134,7 @@
 
   function layout() {
     const room = time.clientWidth - NUMBER;
-    width = Math.max(270, Math.floor(room / Math.max(1, data.actors.length)));
+    width = Math.max(290, Math.floor(room / Math.max(1, data.actors.length)));
     heads.replaceChildren(head('event', '', NUMBER), ...data.actors.map((actor) => head('actor ' + actor.number, actor.title, width)));
     heads.style.width = left(data.actors.length) + 'px';
     canvas.style.width = left(data.actors.length) + 'px';
