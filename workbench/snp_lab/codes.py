@@ -1,0 +1,311 @@
+"""Fault codes, statuses and error lines in words. The tables are those of docs/MODEL.md and docs/FORMATS.md."""
+from __future__ import annotations
+
+from dataclasses import dataclass
+from typing import Dict, List, Optional, Tuple
+
+from .texts import Complaint, number_of
+
+HYPERVISOR = 'the hypervisor: the processor leaves the guest'
+GUEST = 'the guest itself'
+OWN_FAULT = 'the hypervisor itself, from its own store'
+
+
+@dataclass(frozen=True)
+class Row:
+    """A row of a table of docs/MODEL.md, by its section, what the table is of, its number if it has one, and its words."""
+    section: str
+    table: str
+    number: Optional[int]
+    condition: str
+
+    def __str__(self) -> str:
+        number = ', row %d' % self.number if self.number is not None else ','
+        return '%s%s "%s" (docs/MODEL.md, "%s")' % (self.table, number, self.condition, self.section)
+
+
+def rows(section: str, table: str, *conditions: str) -> List[Row]:
+    return [Row(section, table, k + 1, condition) for k, condition in enumerate(conditions)]
+
+
+NESTED_NOT_PRESENT, NESTED_USER, NESTED_WRITE = (
+    Row('Nested walk', 'a nested walk', None, condition) for condition in (
+        'bit 0 (present) is clear, or the frame below is outside memory', 'bit 2 (user) is clear',
+        'bit 1 (writable) is clear, and the access writes or the walk is of a guest table\'s address'))
+GUEST_NOT_PRESENT, GUEST_WRITE = (
+    Row('Guest walk', 'a guest walk', None, condition) for condition in (
+        'bit 0 (present) is clear', 'bit 1 (writable) is clear, and the access writes'))
+PRIVATE = rows('Verdicts', 'a private access', 'not assigned, or another ASID', 'another gpn', 'immutable',
+               'of size 4 KB, and the leaf is of 2 MB', 'not validated',
+               'the VMPL\'s permissions lack bit 0 for a read, or bit 1 for a write')
+SHARED = [Row('Verdicts', 'a shared access', k + 1, 'assigned') for k in range(2)]
+HOST = [Row('Verdicts', 'an access of the hypervisor', k + 1, 'assigned') for k in range(2)]
+CANONICAL = Row('A guest processor\'s access', 'the begin of an access', None, 'Where the address isn\'t canonical')
+OFFLINE = Row('A guest processor\'s access', 'the begin of an access', None, 'Where the guest isn\'t running')
+
+UPDATE = rows('RMPUPDATE and PSMASH', 'RMPUPDATE', 'F isn\'t in memory', 'a frame of the range is locked',
+              '4 KB, and F is in a 2 MB page; 2 MB, the range is no 2 MB page, and a frame of it is assigned',
+              'a frame of the range is immutable')
+SMASH = rows('RMPUPDATE and PSMASH', 'PSMASH', 'F isn\'t in memory, or is no multiple of 512', 'F\'s page is locked',
+             'F is in no 2 MB page', 'F is immutable')
+VALIDATE = rows('PVALIDATE and RMPADJUST', 'PVALIDATE and RMPADJUST', '2 MB asked, and the gpn is no multiple of 512',
+                'f\'s page is locked', 'f isn\'t assigned, its ASID or gpn differs, or it is immutable',
+                '4 KB asked, and f\'s size or the nested leaf is 2 MB', '2 MB asked, and f\'s size is 4 KB',
+                'RMPADJUST: f isn\'t validated', 'RMPADJUST: the mask has a bit that the actor\'s own permissions lack',
+                'RMPADJUST: the VMSA bit is asked, and the VMPL isn\'t 0')
+BEGIN = {key: Row('PVALIDATE and RMPADJUST', 'the begin of PVALIDATE or RMPADJUST', None, condition) for key, condition in {
+    'vmpl': 'the VMPL isn\'t 0', 'align': 'the address is no multiple of 4 KB, or of 2 MB where 2 MB is asked',
+    'mask': 'the target VMPL is above 3, or the mask above 15', 'target': 'the target isn\'t greater than the VMPL'}.items()}
+
+CITED = ([NESTED_NOT_PRESENT, NESTED_USER, NESTED_WRITE, GUEST_NOT_PRESENT, GUEST_WRITE, CANONICAL, OFFLINE] + PRIVATE + SHARED
+         + HOST + UPDATE + SMASH + VALIDATE + list(BEGIN.values()))
+
+
+@dataclass(frozen=True)
+class Bit:
+    place: int
+    name: str
+    words: str
+    clear: str
+    meaning: str
+
+    @property
+    def value(self) -> int:
+        return 1 << self.place
+
+
+NESTED_BITS = [
+    Bit(0, 'P', 'present', 'not present', 'the fault isn\'t a not-present entry'),
+    Bit(1, 'W', 'write', '', 'the access writes, or the translation is of a guest table\'s address'),
+    Bit(2, 'U', 'user', '', 'always set: a guest\'s accesses are user accesses to the nested tables'),
+    Bit(31, 'RMP', 'RMP', '', 'the RMP refused'),
+    Bit(32, '', 'final translation', '', 'the walk or check is of the final translation'),
+    Bit(33, '', 'guest table', '', 'the walk or check is of a guest table\'s address'),
+    Bit(34, 'ENC', 'private', 'shared', 'the access is private, as the reads of guest tables always are'),
+    Bit(35, 'SIZEM', 'another page size', '', 'PVALIDATE or RMPADJUST meets another page size'),
+    Bit(36, 'VMPL', 'VMPL permissions', '', 'the permissions of the VMPL refused'),
+]
+KNOWN_BITS = sum(bit.value for bit in NESTED_BITS)
+
+INSTRUCTION_STATUSES: Dict[int, Tuple[str, str]] = {
+    0: ('SUCCESS', 'it was done'),
+    1: ('FAIL_INPUT', 'an operand is none that the instruction takes'),
+    2: ('FAIL_PERMISSION', 'the page or the processor doesn\'t have the permission'),
+    3: ('FAIL_INUSE', 'another actor holds a lock of the page'),
+    4: ('FAIL_OVERLAP', 'the range meets a page of another size'),
+    6: ('FAIL_SIZEMISMATCH', 'the page is of another size than was asked'),
+}
+FIRMWARE_STATUSES: Dict[int, Tuple[str, str]] = {
+    0x00: ('SUCCESS', 'the command was done'),
+    0x02: ('INVALID_GUEST_STATE', 'the guest\'s state or its binding isn\'t as the command asks'),
+    0x09: ('INVALID_ADDRESS', 'a frame isn\'t in memory'),
+    0x0B: ('BAD_MEASUREMENT', 'the tag that was found isn\'t the one that was kept: the page is another than was swapped out'),
+    0x0C: ('ASID_OWNED', 'the ASID is another guest\'s'),
+    0x16: ('INVALID_PARAM', 'an operand is none that the command takes, or the guest isn\'t declared'),
+    0x19: ('INVALID_PAGE_SIZE', 'the page is of 2 MB'),
+    0x1A: ('INVALID_PAGE_STATE', 'the page isn\'t in a state that the command asks'),
+    0x1B: ('INVALID_MDATA_ENTRY', 'the metadata entry is in use, isn\'t in use, or is of another kind than the command asks'),
+    0x1C: ('INVALID_PAGE_OWNER', 'the page or the entry is another guest\'s'),
+    0x1D: ('AEAD_OFLOW', 'the guest\'s counter is at its end'),
+    0x100: ('PAGE_IN_USE', 'another actor holds a lock of the guest\'s context or of a page'),
+}
+EXIT_STATUSES: Dict[int, str] = {
+    0: 'the whole report was written',
+    1: 'the runtime doesn\'t give the arguments, or has no room for the output\'s buffer',
+    2: 'the words after the program\'s name aren\'t just `replay`',
+    3: 'a line of the text is refused',
+    4: 'the text passes a limit',
+    5: 'reading failed',
+    6: 'writing failed, and what was written is a front of the report',
+    7: 'there wasn\'t memory enough',
+    8: 'an entry of the schedule names an actor that is missing or finished',
+}
+REASONS: Dict[str, str] = {
+    'cut': 'the last line has no line feed',
+    'form': 'the line\'s words fit no line that may stand there, or it has a byte outside of printable ASCII',
+    'number': 'a word that should be a number is none',
+    'range': 'a number is outside its range, or isn\'t the next number',
+    'align': 'an address isn\'t a multiple of 8, or a page of 2 MB no multiple of 512',
+    'guest': 'the guest isn\'t declared',
+    'repeat': 'an ASID, a frame, or a page number of a guest stands twice',
+    'end': 'the text ends without `end`',
+    'after': 'a line stands after `end`',
+}
+
+
+def nested_words(code: int) -> str:
+    """`nested page fault: present, user, RMP, final translation, private`."""
+    parts = [bit.words if code & bit.value else bit.clear for bit in NESTED_BITS]
+    odd = ['bit %d, which no fault of the model sets' % k for k in range(64) if code >> k & 1 and not KNOWN_BITS >> k & 1]
+    return 'nested page fault: ' + ', '.join([part for part in parts if part] + odd)
+
+
+def guest_fault_words(code: int) -> str:
+    """The words of a page fault of the guest's own tables."""
+    parts = ['present' if code & 1 else 'not present'] + (['write'] if code & 2 else [])
+    odd = ['bit %d, which no fault of the model sets' % k for k in range(2, 64) if code >> k & 1]
+    return 'page fault of the guest\'s own tables: ' + ', '.join(parts + odd)
+
+
+def host_fault_words(code: int) -> str:
+    if code == 0x80000003:
+        return 'page fault of the hypervisor: present, write, RMP'
+    return 'page fault of the hypervisor with a code that the model doesn\'t give'
+
+
+def status_words(status: int) -> str:
+    name, meaning = INSTRUCTION_STATUSES.get(status, ('', 'no status that the model gives'))
+    return ('%s: %s' % (name, meaning)) if name else meaning
+
+
+def firmware_words(status: int) -> str:
+    name, meaning = FIRMWARE_STATUSES.get(status, ('', 'no status that the model gives'))
+    return ('firmware: %s: %s' % (name, meaning)) if name else 'firmware: ' + meaning
+
+
+def refusal_words(line: str) -> str:
+    """An error line of the program in words."""
+    words = line.split(' ')
+    if words[:2] == ['error', 'scenario'] and len(words) == 4:
+        return 'line %s: %s' % (words[2], REASONS.get(words[3], 'a reason that docs/FORMATS.md doesn\'t have'))
+    if words[:2] == ['error', 'limit'] and len(words) == 5:
+        return 'it would have %s %s, and the most is %s' % (words[3], words[2], words[4])
+    if words[:2] == ['error', 'schedule'] and len(words) == 4:
+        return ('entry %s of the schedule, counted from 0, names actor %s, which is missing or finished there'
+                % (words[2], words[3]))
+    plain = {'error words': EXIT_STATUSES[2], 'error read': EXIT_STATUSES[5], 'error memory': EXIT_STATUSES[7]}
+    return plain.get(line, 'no error line of the program')
+
+
+def outcome_words(outcome: Tuple[str, ...], kind: str) -> str:
+    """An outcome in words; the kind is that of the deed that it stands behind."""
+    name = outcome[0]
+    value = number_of(outcome[1]) if len(outcome) > 1 else None
+    if name == 'npf':
+        return nested_words(value or 0)
+    if name == 'pf':
+        return host_fault_words(value or 0) if kind == 'host' else guest_fault_words(value or 0)
+    if name == 'vc':
+        return '#VC: the page isn\'t validated' if value == 0x404 else '#VC with a code that the model doesn\'t give'
+    if name == 'rc':
+        return instruction_words(outcome)
+    if name == 'fw':
+        held = '; actor %s holds it' % outcome[3] if outcome[2:3] == ('by',) and len(outcome) > 3 else ''
+        return firmware_words(value or 0) + held
+    return {'gp': 'general protection fault', 'offline': 'the guest isn\'t running', 'store': 'the store was made',
+            'opaque': 'the word stays hidden: the frame is assigned',
+            'next': 'the test failed, or there was nothing to test: the next item follows',
+            'load': 'the load gave %s' % ' '.join(outcome[1:]),
+            'swap': 'the word before the write was %s' % ' '.join(outcome[1:]),
+            'cas': cas_words(outcome),
+            'skipped': 'the test held: %s items are passed over' % ' '.join(outcome[1:])}[name]
+
+
+def cas_words(outcome: Tuple[str, ...]) -> str:
+    if outcome[2:3] == ('yes',):
+        return 'the compare found %s, as it expected, and wrote' % outcome[1]
+    return 'the compare found %s, which it didn\'t expect, and wrote nothing' % ' '.join(outcome[1:2])
+
+
+def instruction_words(outcome: Tuple[str, ...]) -> str:
+    words = 'status ' + status_words(number_of(outcome[1]) or 0)
+    if outcome[2:3] == ('cf',):
+        return words + ('; carry flag 1: Validated was as asked, and nothing changed' if outcome[3:] == ('1',)
+                        else '; carry flag 0: Validated was changed')
+    return words + ('; actor %s holds it' % outcome[3] if outcome[2:3] == ('by',) and len(outcome) > 3 else '')
+
+
+def nested_causes(code: int) -> List[str]:
+    """The rows that can give a nested fault with this code."""
+    table = 'guest table' if code >> 33 & 1 else ''
+    if code >> 31 & 1 == 0:
+        if not code & 1:
+            return [str(NESTED_NOT_PRESENT)]
+        return [str(NESTED_USER)] + ([str(NESTED_WRITE)] if code & 2 else [])
+    if code >> 35 & 1:
+        return [str(VALIDATE[3])]
+    if code >> 36 & 1:
+        return [str(PRIVATE[5])]
+    if code >> 34 & 1 == 0:
+        return [str(SHARED[0])]
+    validate = [str(VALIDATE[2])] if not table and not code & 2 else []
+    return [str(row) for row in PRIVATE[:4]] + validate
+
+
+def decided(causes: List[str]) -> List[str]:
+    """The lines that name what decided, or what may have."""
+    return ['  decided by: %s' % (causes[0] if len(causes) == 1 else 'one of these')] + (['    ' + c for c in causes] if len(causes) > 1 else [])
+
+
+def nested_lines(code: int) -> List[str]:
+    """One nested fault code, taken apart."""
+    lines = ['npf 0x%x: %s' % (code, nested_words(code)), '  goes to: ' + HYPERVISOR]
+    for bit in NESTED_BITS:
+        if code & bit.value:
+            label = 'bit %d%s' % (bit.place, ' ' + bit.name if bit.name else '')
+            lines.append('  %-14s%-14s%s' % ('0x%x' % bit.value, label, bit.meaning))
+    if code & ~KNOWN_BITS or not code & 4 or bool(code >> 32 & 1) == bool(code >> 33 & 1):
+        return lines + ['  no fault of the model has this code: it sets bit 2, one of bits 32 and 33, and no others than these']
+    return lines + decided(nested_causes(code))
+
+
+def kinds_of(code: int) -> List[Tuple[str, List[str]]]:
+    """What a bare number may be, with its lines: each reading that the model has."""
+    readings: List[Tuple[str, List[str]]] = []
+    if code & 4 and code >> 32:
+        return [('npf', nested_lines(code))]
+    if code == 0x404:
+        readings.append(('vc', coded('vc', code)))
+    if code == 0x80000003:
+        readings.append(('host', coded('pf', code)))
+    if code in (0, 2, 3):
+        readings.append(('pf', coded('pf', code)))
+    if code in INSTRUCTION_STATUSES:
+        readings.append(('rc', coded('rc', code)))
+    if code in FIRMWARE_STATUSES:
+        readings.append(('fw', coded('fw', code)))
+    return readings or [('npf', nested_lines(code))]
+
+
+def coded(kind: str, code: int) -> List[str]:
+    """The lines of a code of a named kind."""
+    if kind == 'npf':
+        return nested_lines(code)
+    if kind == 'vc':
+        return ['vc 0x%x: %s' % (code, outcome_words(('vc', '0x%x' % code), 'data')), '  goes to: ' + GUEST,
+                '  decided by: ' + str(PRIVATE[4])]
+    if kind == 'pf' and code >> 31:
+        return ['pf 0x%x behind `host`: %s' % (code, host_fault_words(code)), '  goes to: ' + OWN_FAULT, '  decided by: ' + str(HOST[0])]
+    if kind == 'pf':
+        row = GUEST_WRITE if code & 1 else GUEST_NOT_PRESENT
+        return ['pf 0x%x behind `gpt`: %s' % (code, guest_fault_words(code)), '  goes to: ' + GUEST, '  decided by: ' + str(row)]
+    if kind == 'rc':
+        return ['rc %d: %s' % (code, status_words(code))]
+    if kind == 'fw':
+        return ['fw 0x%x: %s' % (code, firmware_words(code))]
+    if kind == 'status':
+        return ['exit status %d: %s' % (code, EXIT_STATUSES.get(code, 'none that the program ends with'))]
+    raise Complaint('`%s` is no kind of code: npf, pf, vc, rc, fw and status are' % kind)
+
+
+def code_lines(words: List[str]) -> List[str]:
+    """What `explain` says of codes on its command line: `0x580000005`, `npf 0x..`, `rc 3`, `fw 0x1a`, `error ..`."""
+    words = [part for word in words for part in word.split()]
+    if words and words[0] == 'error':
+        return ['%s: %s' % (' '.join(words), refusal_words(' '.join(words)))]
+    lines: List[str] = []
+    kind: Optional[str] = None
+    for word in words:
+        value = number_of(word.lower())
+        if value is None and (kind is not None or word in ('by', 'cf')):
+            raise Complaint('`%s` should be a number, as 0x580000005' % word)
+        if value is None:
+            kind = word
+            if kind in ('gp', 'offline', 'opaque'):
+                lines, kind = lines + ['%s: %s' % (word, outcome_words((word,), 'data'))], None
+            continue
+        lines += coded(kind, value) if kind else [text for _, reading in kinds_of(value) for text in reading]
+        kind = None
+    if kind is not None:
+        raise Complaint('`%s` is no code; give a number, or a kind and a number, as `rc 3`' % kind)
+    return lines

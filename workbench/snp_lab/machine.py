@@ -1,0 +1,299 @@
+"""What scenario and report together say of the machine at each event: the RMP entries, the guests, the open attempts.
+
+This follows the report and computes no run: words of memory are those that the report shows. A fact that the two don't
+determine is None.
+"""
+from __future__ import annotations
+
+from dataclasses import dataclass, field, replace
+from typing import Any, Dict, List, Optional, Tuple
+
+from .report import Event
+from .scenario import Actor, Item, Scenario
+from .texts import page_of
+
+LARGE = 512
+ADDRESS_BITS = 0x0000FFFFFFFFF000
+
+
+@dataclass(frozen=True)
+class Facts:
+    """The entry of a frame in the RMP."""
+    assigned: bool = False
+    is_large: bool = False
+    immutable: bool = False
+    gpn: int = 0
+    asid: int = 0
+    vmsa: bool = False
+    validated: bool = False
+    permissions: Tuple[int, int, int, int] = (0, 0, 0, 0)
+    kind: str = 'Plain'
+
+    @property
+    def state(self) -> str:
+        """The state of the page, by docs/MODEL.md, "Page states"."""
+        if not self.assigned:
+            return 'Hypervisor'
+        if self.asid == 0:
+            if not self.immutable:
+                return 'Reclaim'
+            return 'Firmware' if self.kind == 'Plain' else self.kind
+        if self.immutable:
+            return 'Pre-Swap' if self.validated else 'Pre-Guest'
+        return 'Guest-Valid' if self.validated else 'Guest-Invalid'
+
+
+FREE = Facts()
+RECLAIM = Facts(assigned=True)
+FIRMWARE = Facts(assigned=True, immutable=True, kind='Firmware')
+
+
+def entry_frame(word: int) -> int:
+    """The frame or guest page that an entry of a table names."""
+    return (word & ADDRESS_BITS) >> 12
+
+
+@dataclass
+class Attempt:
+    """An attempt, by its events so far, and what its walks have come to."""
+    events: List[Event] = field(default_factory=list)
+    gpn: Optional[int] = None
+    level: int = 4
+    table_reads: int = 0
+    is_private: bool = True
+    is_final: bool = False
+    leaf_is_large: bool = False
+    extra: Dict[str, int] = field(default_factory=dict)
+
+
+@dataclass
+class Watch:
+    """The machine as far as scenario and report tell it, up to the events that were taken so far."""
+    scenario: Scenario
+    facts: Dict[int, Optional[Facts]] = field(default_factory=dict)
+    states: Dict[int, str] = field(default_factory=dict)
+    bound: Dict[int, bool] = field(default_factory=dict)
+    attempts: Dict[int, Attempt] = field(default_factory=dict)
+    entries: Dict[Tuple[int, int], Optional[Facts]] = field(default_factory=dict)
+    last_write: Dict[Tuple[int, int], int] = field(default_factory=dict)
+
+    def __post_init__(self) -> None:
+        for guest in self.scenario.guests.values():
+            self.states[guest.number] = 'running' if guest.is_opened else 'absent'
+            self.bound[guest.number] = guest.is_opened
+        for page in self.scenario.pages:
+            asid = self.scenario.guests[page.guest].asid
+            for k in range(LARGE if page.is_large else 1):
+                self.facts[page.frame + k] = Facts(True, page.is_large, False, page.gpn + k, asid, False, page.is_valid,
+                                                   page.permissions)
+
+    def facts_of(self, frame: int) -> Optional[Facts]:
+        return self.facts.get(frame, FREE)
+
+    def actor_of(self, event: Event) -> Optional[Actor]:
+        return self.scenario.actors.get(event.actor)
+
+    def item_of(self, event: Event) -> Optional[Item]:
+        actor = self.actor_of(event)
+        return actor.items[event.item] if actor is not None and event.item < len(actor.items) else None
+
+    def page_frames(self, frame: int) -> List[int]:
+        """The frames of the page in which a frame stands."""
+        facts = self.facts_of(frame)
+        if facts is None or not facts.is_large:
+            return [frame]
+        head = frame - frame % LARGE
+        return list(range(head, head + LARGE))
+
+    def guest_name(self, asid: int) -> str:
+        """Whose an ASID is, in words."""
+        for guest in self.scenario.guests.values():
+            if guest.asid == asid:
+                return 'guest %d' % guest.number
+        return 'ASID %d' % asid
+
+    def entry_words(self, frame: int) -> str:
+        """The entry of a frame in words: `frame 9 is page 0x1 of guest 1`."""
+        facts = self.facts_of(frame)
+        if facts is None:
+            return 'frame %d has an entry that the report doesn\'t tell' % frame
+        if not facts.assigned:
+            return 'frame %d is nobody\'s' % frame
+        if facts.asid == 0:
+            return 'frame %d is the firmware\'s (%s)' % (frame, facts.state)
+        more = ([] if not facts.is_large else ['in a page of 2 MB']) + ([] if facts.validated else ['not validated']) \
+            + (['immutable'] if facts.immutable else [])
+        return 'frame %d is page %s of %s%s' % (frame, page_of(facts.gpn), self.guest_name(facts.asid), ', ' + ', '.join(more) if more else '')
+
+    def open_attempt(self, event: Event) -> Attempt:
+        """The attempt of an event, with the state of its walks before the event."""
+        known = self.attempts.get(event.actor)
+        if known is not None and known.events and (known.events[0].item, known.events[0].attempt) == (event.item, event.attempt):
+            return known
+        made = Attempt()
+        self.attempts[event.actor] = made
+        actor, item = self.actor_of(event), self.item_of(event)
+        if actor is None or actor.role != 'cpu' or item is None or item.word == 'skip':
+            return made
+        if actor.paging == 'flat':
+            made.gpn, made.is_final = (item.operands[0] >> 12) & ((1 << 36) - 1), True
+        else:
+            made.gpn = actor.first_page
+        return made
+
+    def take(self, event: Event) -> None:
+        """Goes on behind an event."""
+        attempt = self.open_attempt(event)
+        attempt.events.append(event)
+        if event.kind == 'npt':
+            word = int(event.deed[2], 0)
+            if attempt.level == 2 and word & 0x80:
+                attempt.leaf_is_large = True
+            attempt.level -= 1
+        elif event.kind == 'gpt' and not event.outcome and event.deed[3] != '-':
+            self.take_table(event, attempt)
+        if event.outcome:
+            if event.kind in ('commit', 'commitg') and event.is_good:
+                self.commit(event)
+            if event.kind in ('data', 'host') and writes(event):
+                self.last_write[event.frame, event.place[1]] = event.number
+            self.attempts.pop(event.actor, None)
+
+    def take_table(self, event: Event, attempt: Attempt) -> None:
+        """The guest walk behind a table's word that let it go on."""
+        actor, item = self.actor_of(event), self.item_of(event)
+        word = int(event.deed[3], 0)
+        attempt.table_reads += 1
+        level = (5 if actor is not None and actor.paging == 'la57' else 4) - attempt.table_reads + 1
+        below = entry_frame(word)
+        if level == 1 or level == 2 and word & 0x80:
+            attempt.is_final = True
+            attempt.is_private = bool(word >> 51 & 1) or item is not None and item.word in ('pvalidate', 'rmpadjust')
+            if level == 2 and item is not None:
+                below = below - below % LARGE + (item.operands[0] >> 12) % LARGE
+        attempt.gpn, attempt.level, attempt.leaf_is_large = below, 4, False
+
+    def change(self, frames: List[int], **fields: Any) -> None:
+        for frame in frames:
+            facts = self.facts_of(frame)
+            self.facts[frame] = None if facts is None else replace(facts, **fields)
+
+    def commit(self, event: Event) -> None:
+        """What a commit changes of entries and guests, by the tables of docs/MODEL.md."""
+        item, actor = self.item_of(event), self.actor_of(event)
+        if item is None or actor is None:
+            return
+        change = COMMITS.get(item.word)
+        if change is not None:
+            change(self, event, item, actor)
+
+
+def writes(event: Event) -> bool:
+    """Whether an access has changed its word, or may have."""
+    return event.outcome[:1] in (('store',), ('swap',)) or event.outcome[:1] == ('cas',) and event.outcome[2:] == ('yes',)
+
+
+def commit_update(watch: Watch, event: Event, item: Item, actor: Actor) -> None:
+    frame, size, assigned, asid, gpn, immutable = item.operands
+    frames = list(range(frame, frame + (LARGE if size == 2 else 1)))
+    old = watch.facts_of(frame)
+    same = (old is not None and old.assigned and assigned and old.asid == asid and old.gpn == gpn
+            and old.is_large == (size == 2) and not old.immutable and immutable)
+    if same:
+        watch.change(frames, immutable=True, **({'kind': 'Firmware'} if asid == 0 else {}))
+        return
+    for k, one in enumerate(frames):
+        watch.facts[one] = FREE if not assigned else Facts(
+            True, size == 2, bool(immutable), gpn + k if asid else 0, asid, False, False,
+            (15, 0, 0, 0) if asid else (0, 0, 0, 0), 'Firmware' if asid == 0 and immutable else 'Plain')
+
+
+def commit_smash(watch: Watch, event: Event, item: Item, actor: Actor) -> None:
+    watch.change(list(range(item.operands[0], item.operands[0] + LARGE)), is_large=False)
+
+
+def commit_validate(watch: Watch, event: Event, item: Item, actor: Actor) -> None:
+    if event.outcome[2:] == ('cf', '0'):
+        watch.change(watch.page_frames(event_frame(event)), validated=bool(item.operands[2]))
+
+
+def commit_adjust(watch: Watch, event: Event, item: Item, actor: Actor) -> None:
+    _, _, target, mask, vmsa = item.operands
+    for frame in watch.page_frames(event_frame(event)):
+        facts = watch.facts_of(frame)
+        if facts is None:
+            continue
+        permissions = list(facts.permissions)
+        permissions[target] = mask
+        watch.change([frame], permissions=tuple(permissions), **({'vmsa': bool(vmsa)} if actor.vmpl == 0 else {}))
+
+
+def event_frame(event: Event) -> int:
+    return int(event.deed[1])
+
+
+def commit_launch(watch: Watch, event: Event, item: Item, actor: Actor) -> None:
+    watch.change([item.operands[1]], immutable=False, validated=True, permissions=(15,) + item.operands[4:7])
+
+
+def commit_context(watch: Watch, event: Event, item: Item, actor: Actor) -> None:
+    guest = item.operands[0]
+    state = {'gctx_create': 'init', 'launch_start': 'launching', 'launch_finish': 'running'}.get(item.word)
+    if state is not None:
+        watch.states[guest] = state
+    if item.word == 'gctx_create':
+        watch.change([item.operands[1]], kind='Context')
+    if item.word == 'activate':
+        watch.bound[guest] = True
+
+
+def commit_metadata(watch: Watch, event: Event, item: Item, actor: Actor) -> None:
+    """A page becomes a metadata page, or an empty one of the firmware."""
+    frame = item.operands[0] if item.word == 'md_init' else item.operands[2 if item.word.endswith('in') else 1]
+    out = item.word.endswith('out')
+    watch.change([frame], kind='Firmware' if out else 'Metadata')
+    for entry in [entry for entry in watch.entries if entry[0] == frame]:
+        del watch.entries[entry]
+
+
+def commit_move(watch: Watch, event: Event, item: Item, actor: Actor) -> None:
+    _, source, target = item.operands
+    watch.facts[target] = watch.facts_of(source)
+    watch.change([source], vmsa=False, validated=False, immutable=True, permissions=(15, 0, 0, 0))
+
+
+def commit_swap_out(watch: Watch, event: Event, item: Item, actor: Actor) -> None:
+    _, source, _, page, entry = item.operands
+    watch.entries[page, entry] = watch.facts_of(source)
+    watch.facts[source] = RECLAIM
+
+
+def commit_swap_in(watch: Watch, event: Event, item: Item, actor: Actor) -> None:
+    _, _, target, page, entry = item.operands
+    kept = watch.entries.pop((page, entry), None)
+    old = watch.facts_of(target)
+    if kept is None or old is None:
+        watch.facts[target] = None
+        return
+    watch.facts[target] = replace(old, gpn=kept.gpn, validated=kept.validated, vmsa=kept.vmsa, permissions=kept.permissions)
+
+
+def commit_reclaim(watch: Watch, event: Event, item: Item, actor: Actor) -> None:
+    frame = item.operands[0]
+    facts = watch.facts_of(frame)
+    if facts is None:
+        return
+    if facts.asid == 0:
+        for one in watch.page_frames(frame):
+            watch.facts[one] = replace(RECLAIM, is_large=facts.is_large)
+    else:
+        watch.change(watch.page_frames(frame), immutable=False)
+
+
+COMMITS = {
+    'rmpupdate': commit_update, 'psmash': commit_smash, 'pvalidate': commit_validate, 'rmpadjust': commit_adjust,
+    'gctx_create': commit_context, 'activate': commit_context, 'launch_start': commit_context, 'launch_finish': commit_context,
+    'launch_update': commit_launch, 'md_init': commit_metadata, 'md_in': commit_metadata, 'md_root_in': commit_metadata,
+    'md_out': commit_metadata, 'md_root_out': commit_metadata, 'page_move': commit_move, 'swap_out': commit_swap_out,
+    'swap_in': commit_swap_in, 'page_reclaim': commit_reclaim,
+}

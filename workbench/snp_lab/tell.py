@@ -1,0 +1,406 @@
+"""Each event of a report in words: what was done, how it ended, which row of which table decided, and who gets the fault."""
+from __future__ import annotations
+
+from dataclasses import dataclass, field
+from typing import Callable, Dict, List, Optional, Tuple
+
+from . import codes
+from .codes import Row
+from .machine import Attempt, Facts, Watch, entry_frame
+from .report import Event
+from .scenario import Actor, Item, Scenario
+from .texts import number_of, page_of
+
+Decision = Tuple[Optional[Row], str]
+
+
+@dataclass
+class Told:
+    """What is said of one event."""
+    event: Event
+    item: str
+    who: str
+    words: List[str] = field(default_factory=list)
+    outcome: str = ''
+    decided: str = ''
+    because: str = ''
+    receiver: str = ''
+    misfit: str = ''
+
+    @property
+    def lines(self) -> List[str]:
+        """The explanation as lines of text."""
+        lines = ['event %d: actor %d (%s), item %d `%s`%s' % (
+            self.event.number, self.event.actor, self.who, self.event.item, self.item,
+            ', attempt %d' % self.event.attempt if self.event.attempt else ''), '  ' + self.event.text]
+        lines += ['  ' + words for words in self.words]
+        named = (('outcome', self.outcome), ('decided by', self.decided), ('because', self.because), ('goes to', self.receiver),
+                 ('misfit', self.misfit))
+        return lines + ['  %s: %s' % (name, text) for name, text in named if text]
+
+
+def nested_index(gpn: int, level: int) -> int:
+    return (gpn >> 9 * (level - 1)) % 512
+
+
+def bits_words(word: int, names: Tuple[Tuple[int, str], ...]) -> str:
+    return ', '.join(name if word >> place & 1 else 'not ' + name for place, name in names)
+
+
+# How an access ends that is let through.
+ANSWERS = {'load': 'load', 'store': 'store', 'swap': 'swap', 'xor': 'swap', 'cas': 'cas'}
+NESTED_NAMES = ((0, 'present'), (1, 'writable'), (2, 'user'))
+GUEST_NAMES = ((0, 'present'), (1, 'writable'))
+
+
+class Teller:
+    """Tells the events of one report one after the other."""
+
+    def __init__(self, scenario: Scenario) -> None:
+        self.watch = Watch(scenario)
+        self.scenario = scenario
+
+    def tell(self, event: Event) -> Told:
+        """What is to be said of the next event."""
+        actor, item = self.watch.actor_of(event), self.watch.item_of(event)
+        told = Told(event, item.text if item else '?', actor.title if actor else 'not in this scenario')
+        if actor is None or item is None:
+            told.misfit = 'the scenario has no item %d of actor %d: report and scenario don\'t belong together' % (event.item, event.actor)
+            return told
+        attempt = self.watch.open_attempt(event)
+        DEED_WORDS[event.kind](self, told, attempt, actor, item)
+        if event.outcome:
+            told.outcome = codes.outcome_words(event.outcome, event.kind)
+            self.decide(told, attempt, actor, item)
+        self.watch.take(event)
+        return told
+
+    def decide(self, told: Told, attempt: Attempt, actor: Actor, item: Item) -> None:
+        """Which row decided, why, and who gets the fault."""
+        event = told.event
+        told.receiver = receiver(event)
+        decision: Optional[Decision] = None
+        if event.kind == 'npt':
+            decision = self.nested_decision(event, attempt, item)
+        elif event.kind == 'gpt' and event.deed[3] != '-':
+            decision = self.guest_decision(event)
+        elif event.kind in ('data', 'gpt', 'host'):
+            decision = self.check_decision(told, event, attempt, actor, item)
+        elif event.kind == 'begin':
+            decision = self.begin_decision(event, actor, item)
+        elif event.kind == 'lock':
+            decision = self.lock_decision(event, attempt, actor, item)
+        elif event.kind == 'lockg':
+            decision = self.context_decision(event, item)
+        elif event.kind == 'commit' and event.outcome[2:] == ('cf', '1'):
+            decision = None, 'Validated was %d already' % item.operands[2]
+        if decision is not None:
+            told.decided = str(decision[0]) if decision[0] is not None else ''
+            told.because = decision[1]
+
+    # Walks
+
+    def nested_decision(self, event: Event, attempt: Attempt, item: Item) -> Optional[Decision]:
+        """The row of a nested walk that ended an attempt at a read."""
+        word = int(event.deed[2], 0)
+        below = self.frame_below(word, attempt)
+        facts = self.watch.facts_of(event.frame)
+        if not word & 1:
+            zero = ': %s, so that the walker reads 0 there' % self.watch.entry_words(event.frame) if facts is not None and facts.assigned else ''
+            return codes.NESTED_NOT_PRESENT, 'the word %s has bit 0 clear%s' % (event.deed[2], zero)
+        if below >= self.scenario.frames:
+            return codes.NESTED_NOT_PRESENT, 'frame %d, which the word %s names, is outside memory, which has %d frames' % (
+                below, event.deed[2], self.scenario.frames)
+        if not word & 4:
+            return codes.NESTED_USER, 'the word %s has bit 2 clear' % event.deed[2]
+        why = 'the walk is of a guest table\'s address' if not attempt.is_final else '`%s` writes' % item.word
+        return codes.NESTED_WRITE, 'the word %s has bit 1 clear, and %s' % (event.deed[2], why)
+
+    def frame_below(self, word: int, attempt: Attempt) -> int:
+        below = entry_frame(word)
+        if attempt.level == 2 and word & 0x80 and attempt.gpn is not None:
+            return below - below % 512 + attempt.gpn % 512
+        return below
+
+    def guest_decision(self, event: Event) -> Optional[Decision]:
+        word = int(event.deed[3], 0)
+        if event.outcome[0] != 'pf':
+            return None
+        if not word & 1:
+            return codes.GUEST_NOT_PRESENT, 'the guest\'s own entry %s has bit 0 clear' % event.deed[3]
+        return codes.GUEST_WRITE, 'the guest\'s own entry %s has bit 1 clear, and the access writes' % event.deed[3]
+
+    # Checks of the RMP
+
+    def check_decision(self, told: Told, event: Event, attempt: Attempt, actor: Actor, item: Item) -> Optional[Decision]:
+        """The row of the RMP's table that refused or hid an access; none where it passed."""
+        facts = self.watch.facts_of(event.frame)
+        if facts is None:
+            return None, self.watch.entry_words(event.frame)
+        if event.kind == 'host' or event.kind == 'data' and event.deed[3] == 's':
+            row = self.open_row(facts, item, codes.HOST if event.kind == 'host' else codes.SHARED)
+        else:
+            is_read = event.kind == 'gpt'
+            row = self.private_row(facts, event.place[0], attempt.leaf_is_large, actor, not is_read and item.writes,
+                                   is_read or item.word != 'store')
+        expected = self.expected(row, event, item)
+        passed = event.outcome[0] not in ('npf', 'pf', 'vc', 'opaque')
+        if (expected is None) != passed or expected is not None and expected != event.outcome:
+            told.misfit = 'by the scenario this should be %s: report and scenario don\'t belong together' % (
+                '`%s`' % ' '.join(expected) if expected else 'let through')
+            return None
+        if row is None:
+            return self.origin(told, event, item)
+        return row, self.check_words(row, facts, event, actor, item)
+
+    def private_row(self, facts: Facts, gpn: int, leaf_is_large: bool, actor: Actor, is_write: bool, is_read: bool) -> Optional[Row]:
+        needs = (1 if is_read else 0) | (2 if is_write else 0)
+        refused = (not facts.assigned or facts.asid != self.scenario.guests[actor.guest].asid, facts.gpn != gpn, facts.immutable,
+                   not facts.is_large and leaf_is_large, not facts.validated, facts.permissions[actor.vmpl] & needs != needs)
+        return next((row for row, applies in zip(codes.PRIVATE, refused) if applies), None)
+
+    @staticmethod
+    def open_row(facts: Facts, item: Item, table: List[Row]) -> Optional[Row]:
+        return None if not facts.assigned else table[0 if item.writes else 1]
+
+    def expected(self, row: Optional[Row], event: Event, item: Item) -> Optional[Tuple[str, ...]]:
+        """The outcome that a row gives."""
+        if row is None:
+            return None
+        if row in (codes.SHARED[1], codes.HOST[1]) and not item.writes:
+            return ('opaque',)
+        if event.kind == 'host':
+            return 'pf', '0x80000003'
+        if row is codes.PRIVATE[4]:
+            return 'vc', '0x404'
+        code = 0x80000005 | (0x200000002 if event.kind == 'gpt' else 0x100000000 | (2 if item.writes else 0))
+        code |= 0 if event.kind == 'data' and event.deed[3] == 's' else 0x400000000
+        code |= 0x1000000000 if row is codes.PRIVATE[5] else 0
+        return 'npf', '0x%x' % code
+
+    def check_words(self, row: Row, facts: Facts, event: Event, actor: Actor, item: Item) -> str:
+        entry = self.watch.entry_words(event.frame)
+        guest = actor.guest
+        if row is codes.PRIVATE[0]:
+            return '%s, and the access is of guest %d' % (entry, guest)
+        if row is codes.PRIVATE[1]:
+            return '%s, and page %s was asked' % (entry, page_of(event.place[0]))
+        if row is codes.PRIVATE[3]:
+            return '%s, a page of 4 KB, and the nested leaf is of 2 MB' % entry
+        if row is codes.PRIVATE[5]:
+            return '%s, where VMPL%d has the permissions %d, and `%s` needs %s' % (
+                entry, actor.vmpl, facts.permissions[actor.vmpl], item.word,
+                'bit 0' if event.kind == 'gpt' or item.word == 'load' else 'bit 1' if item.word == 'store' else 'bits 0 and 1')
+        if event.kind in ('host', 'data') and row in codes.HOST + codes.SHARED:
+            return '%s, and %s' % (entry, 'the access writes' if item.writes else 'the access loads: what a machine would show is no word of the guest')
+        return entry
+
+    def origin(self, told: Told, event: Event, item: Item) -> Optional[Decision]:
+        """Where a word that was read comes from."""
+        if event.kind == 'gpt':
+            return None
+        if event.outcome[0] != ANSWERS.get(item.word):
+            told.misfit = '`%s` doesn\'t end so: report and scenario don\'t belong together' % item.word
+        if event.outcome[0] not in ('load', 'swap', 'cas'):
+            return None
+        key = (event.frame, event.place[1])
+        written = self.watch.last_write.get(key)
+        if written is not None:
+            return None, 'event %d wrote this word' % written
+        if key in self.scenario.words:
+            return None, 'the word is that of the opening'
+        return None, 'nobody wrote this word since the opening' if event.outcome[1] == '0x0' else ''
+
+    # Begins, locks and contexts
+
+    def begin_decision(self, event: Event, actor: Actor, item: Item) -> Optional[Decision]:
+        if event.outcome[0] == 'offline':
+            return codes.OFFLINE, 'guest %d is %s' % (actor.guest, self.watch.states.get(actor.guest, '?'))
+        address = item.operands[0]
+        low = 56 if actor.paging == 'la57' else 47
+        top = address >> low
+        if event.outcome[0] == 'gp' and top not in (0, (1 << 64 - low) - 1):
+            return codes.CANONICAL, 'bits 63:%d of 0x%x aren\'t all equal' % (low, address)
+        if event.outcome[0] == 'gp':
+            return codes.BEGIN['vmpl'], 'PVALIDATE is for VMPL0 alone, and this is VMPL%d' % actor.vmpl
+        if address % (4096 * (512 if item.operands[1] == 2 else 1)):
+            return codes.BEGIN['align'], '0x%x isn\'t a multiple of %s' % (address, '2 MB' if item.operands[1] == 2 else '4 KB')
+        return codes.BEGIN['target' if event.outcome[1] == '2' else 'mask'], 'target VMPL %d, mask %d, by VMPL%d' % (
+            item.operands[2], item.operands[3], actor.vmpl)
+
+    def lock_decision(self, event: Event, attempt: Attempt, actor: Actor, item: Item) -> Optional[Decision]:
+        if event.outcome[0] == 'fw':
+            return None, self.firmware_words(event, item)
+        status = number_of(event.outcome[1]) or 0
+        if item.word == 'rmpupdate':
+            return self.update_words(status, event, item)
+        if item.word == 'psmash':
+            return self.smash_words(status, event, item)
+        return self.validate_words(event, attempt, actor, item)
+
+    def update_words(self, status: int, event: Event, item: Item) -> Decision:
+        frame = item.operands[0]
+        row = codes.UPDATE[{1: 0, 3: 1, 4: 2}.get(status, 3)]
+        if status == 1:
+            return row, bad_update(item, self.scenario.frames)
+        if status == 3:
+            return row, 'actor %s holds the lock' % event.outcome[-1]
+        return row, self.watch.entry_words(frame)
+
+    def smash_words(self, status: int, event: Event, item: Item) -> Decision:
+        frame = item.operands[0]
+        facts = self.watch.facts_of(frame)
+        if status == 1 and (frame >= self.scenario.frames or frame % 512):
+            return codes.SMASH[0], 'frame %d%s' % (frame, ' is no multiple of 512' if frame % 512 else ' is outside memory')
+        if status == 3:
+            return codes.SMASH[1], 'actor %s holds the lock' % event.outcome[-1]
+        words = 'frame %d stands in a page of 4 KB' % frame if facts is not None and not facts.is_large else self.watch.entry_words(frame)
+        return codes.SMASH[2 if status == 1 else 3], words
+
+    def validate_words(self, event: Event, attempt: Attempt, actor: Actor, item: Item) -> Optional[Decision]:
+        frame = int(event.deed[1])
+        facts = self.watch.facts_of(frame)
+        entry = self.watch.entry_words(frame)
+        if event.outcome[0] == 'npf' and (number_of(event.outcome[1]) or 0) >> 35 & 1:
+            return codes.VALIDATE[3], entry if facts is None or facts.is_large else 'the nested leaf is of 2 MB'
+        if event.outcome[0] == 'npf':
+            asked = '' if attempt.gpn is None else ', and page %s of guest %d was asked' % (page_of(attempt.gpn), actor.guest)
+            return codes.VALIDATE[2], entry + asked
+        if event.outcome[0] == 'vc':
+            return codes.VALIDATE[5], entry
+        status = number_of(event.outcome[1]) or 0
+        if status == 2:
+            return self.adjust_permission(facts, actor, item)
+        return {1: (codes.VALIDATE[0], 'page %s was asked' % page_of(attempt.gpn or 0)),
+                3: (codes.VALIDATE[1], 'actor %s holds the lock' % event.outcome[-1]),
+                6: (codes.VALIDATE[4], entry)}.get(status)
+
+    def adjust_permission(self, facts: Optional[Facts], actor: Actor, item: Item) -> Optional[Decision]:
+        if facts is None:
+            return None
+        own, mask = facts.permissions[actor.vmpl], item.operands[3]
+        if mask & ~own:
+            return codes.VALIDATE[6], 'the mask is %d, and VMPL%d has %d itself' % (mask, actor.vmpl, own)
+        return codes.VALIDATE[7], 'this is VMPL%d' % actor.vmpl
+
+    def firmware_words(self, event: Event, item: Item) -> str:
+        frame = int(event.deed[1])
+        facts = self.watch.facts_of(frame)
+        status = number_of(event.outcome[1]) or 0
+        if status == 0x09:
+            return 'frame %d is outside memory, which has %d frames' % (frame, self.scenario.frames)
+        if status == 0x1A and facts is not None:
+            return 'frame %d is in the state %s, which `%s` doesn\'t take there' % (frame, facts.state, item.word)
+        if status in (0x19, 0x1C):
+            return self.watch.entry_words(frame)
+        return ''
+
+    def context_decision(self, event: Event, item: Item) -> Optional[Decision]:
+        guest = int(event.deed[1])
+        status = number_of(event.outcome[1]) or 0
+        if status == 0x16 and guest not in self.scenario.guests:
+            return None, 'guest %d isn\'t declared' % guest
+        if status == 0x02:
+            bound = 'bound' if self.watch.bound.get(guest) else 'not bound'
+            return None, 'guest %d is %s, and %s' % (guest, self.watch.states.get(guest, '?'), bound)
+        return None
+
+
+def bad_update(item: Item, frames: int) -> str:
+    """What is wrong with the operands of an RMPUPDATE."""
+    frame, size, assigned, asid, gpn, immutable = item.operands
+    if frame >= frames:
+        return 'frame %d is outside memory, which has %d frames' % (frame, frames)
+    if size == 2 and frame % 512:
+        return '2 MB are asked, and frame %d is no multiple of 512' % frame
+    if size == 2 and assigned and (gpn % 512 or not asid):
+        return '2 MB are asked as assigned, and the page number is no multiple of 512 or the ASID is 0'
+    if not assigned:
+        return 'the page is to be free, and an ASID, a page number or Immutable is asked'
+    return 'an ASID of 0 is asked with the page number %s' % page_of(gpn)
+
+
+def receiver(event: Event) -> str:
+    """Who gets a fault."""
+    if event.outcome[0] == 'npf':
+        return codes.HYPERVISOR
+    if event.outcome[0] in ('gp', 'vc'):
+        return codes.GUEST
+    if event.outcome[0] == 'pf':
+        return codes.OWN_FAULT if event.kind == 'host' else codes.GUEST
+    return ''
+
+
+def tell_begin(teller: Teller, told: Told, attempt: Attempt, actor: Actor, item: Item) -> None:
+    if item.operands:
+        address = item.operands[0]
+        told.words.append('`%s` begins at the virtual address 0x%x' % (item.word, address))
+
+
+def tell_nested(teller: Teller, told: Told, attempt: Attempt, actor: Actor, item: Item) -> None:
+    word, level = int(told.event.deed[2], 0), attempt.level
+    frame, index = told.event.place
+    page = page_of(attempt.gpn) if attempt.gpn is not None else '?'
+    of = 'the page that is accessed' if attempt.is_final else 'a table of the guest'
+    told.words.append('nested walk of page %s (%s), level %d: word %d of the table in frame %d' % (page, of, level, index, frame))
+    leaf = level == 1 or level == 2 and bool(word & 0x80)
+    size = '' if not leaf else ' (a leaf of %s)' % ('4 KB' if level == 1 else '2 MB')
+    told.words.append('the word %s names frame %d%s: %s' % (told.event.deed[2], teller.frame_below(word, attempt), size,
+                                                           bits_words(word, NESTED_NAMES)))
+    if attempt.gpn is not None and nested_index(attempt.gpn, level) != index:
+        told.misfit = 'by the scenario this should be word %d: report and scenario don\'t belong together' % nested_index(attempt.gpn, level)
+
+
+def tell_table(teller: Teller, told: Told, attempt: Attempt, actor: Actor, item: Item) -> None:
+    gpn, index = told.event.place
+    level = (5 if actor.paging == 'la57' else 4) - attempt.table_reads
+    told.words.append('guest walk, level %d: word %d of the guest\'s page %s, in frame %d' % (level, index, page_of(gpn), told.event.frame))
+    if told.event.deed[3] == '-':
+        told.words.append('the RMP refused the read, so that no word was read')
+        return
+    word = int(told.event.deed[3], 0)
+    leaf = level == 1 or level == 2 and bool(word & 0x80)
+    told.words.append('the word %s names page %s: %s%s' % (told.event.deed[3], page_of(entry_frame(word)), bits_words(word, GUEST_NAMES),
+                                                            ', private' if leaf and word >> 51 & 1 else ', shared' if leaf else ''))
+
+
+def tell_data(teller: Teller, told: Told, attempt: Attempt, actor: Actor, item: Item) -> None:
+    gpn, index = told.event.place
+    told.words.append('%s access to word %d of the guest\'s page %s, in frame %d; %s' % (
+        'private' if told.event.deed[3] == 'p' else 'shared', index, page_of(gpn), told.event.frame, teller.watch.entry_words(told.event.frame)))
+
+
+def tell_host(teller: Teller, told: Told, attempt: Attempt, actor: Actor, item: Item) -> None:
+    told.words.append('access of the hypervisor to word %d of frame %d; %s' % (
+        told.event.place[1], told.event.place[0], teller.watch.entry_words(told.event.place[0])))
+
+
+def tell_lock(teller: Teller, told: Told, attempt: Attempt, actor: Actor, item: Item) -> None:
+    if told.event.kind == 'lockg':
+        told.words.append('%s the context of guest %s' % ('asks for' if told.event.outcome else 'locks', told.event.deed[1]))
+        return
+    frame = number_of(told.event.deed[1]) or 0
+    told.words.append('%s the page of frame %d; %s' % ('asks for' if told.event.outcome else 'locks', frame, teller.watch.entry_words(frame)))
+
+
+def tell_commit(teller: Teller, told: Told, attempt: Attempt, actor: Actor, item: Item) -> None:
+    if told.event.kind == 'commitg':
+        told.words.append('the context of guest %s is changed' % told.event.deed[1])
+        return
+    told.words.append('frame %s, page %s, %s: the change is made' % (
+        told.event.deed[1], told.event.deed[2], '2 MB' if told.event.deed[3] == '2m' else '4 KB'))
+
+
+def tell_compute(teller: Teller, told: Told, attempt: Attempt, actor: Actor, item: Item) -> None:
+    told.words.append('the page is copied and %s' % ('opened' if item.word.endswith('in') else 'sealed'))
+
+
+def tell_skip(teller: Teller, told: Told, attempt: Attempt, actor: Actor, item: Item) -> None:
+    tests = {'ok': 'is good', 'bad': 'is bad', 'value': 'has the value %s' % item.operands[-1]}
+    told.words.append('tests whether the last outcome of this actor %s' % tests.get(item.test, '?'))
+
+
+DEED_WORDS: Dict[str, Callable[[Teller, Told, Attempt, Actor, Item], None]] = {
+    'begin': tell_begin, 'npt': tell_nested, 'gpt': tell_table, 'data': tell_data, 'host': tell_host, 'lock': tell_lock,
+    'lockg': tell_lock, 'commit': tell_commit, 'commitg': tell_commit, 'compute': tell_compute, 'skip': tell_skip,
+}

@@ -1,0 +1,337 @@
+"""Shorter scenarios in, plain ones out. The short form stands in comments of what comes out."""
+from __future__ import annotations
+
+import re
+from dataclasses import dataclass, field
+from typing import Callable, Dict, List, Optional, Set, Tuple
+
+from . import order
+from .program import Program
+from .scenario import ACCESSES, OPERANDS
+from .texts import Complaint, Line, hex_of, lines_of, number_of
+
+NAME = re.compile(r'[a-z][a-z0-9_]*\Z')
+CALL = re.compile(r'([a-z]+)\(([^()]*)\)\Z')
+RANGE = re.compile(r'([^.]+)\.\.([^.]+)\Z')
+MAP = re.compile(r'map (\S+) root (\S+): (\S+) -> (\S+)( read-only)?\Z')
+SECTIONS = {'snp': 0, 'regions': 1, 'frame': 2, 'guest': 3, 'page': 4, 'word': 5, 'map': 5, 'actor': 6, 'order': 7, 'end': 8}
+KEY = '0' * 64
+KEPT_WORDS = frozenset('''snp regions frame guest page word map root actor order end opened new asid iv key of at valid invalid cpu host
+fw vmpl npt flat gcr3 la57 skip if ok bad value retry read'''.split()) | frozenset(OPERANDS)
+# Which operands of an item, counted from 1, are frames.
+FRAMES_OF = {'rmpupdate': (1,), 'psmash': (1,), 'gctx_create': (2,), 'launch_update': (2,), 'md_init': (1,), 'page_move': (2, 3),
+             'swap_out': (2, 3, 4), 'swap_in': (2, 3, 4), 'page_reclaim': (1,), 'md_out': (2, 3, 4), 'md_in': (2, 3, 4),
+             'md_root_out': (2, 3), 'md_root_in': (2, 3)}
+
+
+@dataclass
+class Entry:
+    """A line of the short text with the comments above it, and what becomes of it."""
+    line: Line
+    comments: List[str]
+    plain: List[str] = field(default_factory=list)
+
+    @property
+    def first(self) -> str:
+        return self.line.words[0]
+
+
+@dataclass
+class Draft:
+    """A scenario in the making."""
+    name: str
+    top: List[str] = field(default_factory=list)
+    entries: List[Entry] = field(default_factory=list)
+    frames: Dict[str, int] = field(default_factory=dict)
+    used: Set[int] = field(default_factory=set)
+    tables: Dict[Tuple[int, int], int] = field(default_factory=dict)
+    leaves: Dict[Tuple[int, int], Tuple[int, int]] = field(default_factory=dict)
+    highest: int = 0
+
+    # Words
+
+    def value(self, line: Line, word: str) -> int:
+        """The number that a word says: a number, a named frame, or a call such as `leaf(1,0x0)`."""
+        number = number_of(word)
+        if number is not None:
+            return number
+        if word in self.frames:
+            return self.frames[word]
+        found = CALL.match(word)
+        if found is None:
+            line.fail('`%s` is neither a number nor a named frame; `frame %s 9` would name one' % (word, word if NAME.match(word) else 'NAME'))
+        call = CALLS.get(found.group(1))
+        if call is None:
+            line.fail('`%s` is no call: %s are' % (found.group(1), ', '.join(CALLS)))
+        return call(self, line, [self.value(line, part) for part in found.group(2).split(',')])
+
+    def plain_word(self, line: Line, word: str) -> str:
+        """A word of a line as it stands in a plain scenario."""
+        if word in self.frames:
+            return str(self.frames[word])
+        if NAME.match(word) and word not in KEPT_WORDS:
+            self.value(line, word)
+        return hex_of(self.value(line, word)) if CALL.match(word) else word
+
+    def use(self, frame: int) -> None:
+        self.used.add(frame)
+        self.highest = max(self.highest, frame)
+
+    def free_frame(self, behind: int) -> int:
+        """The first frame behind another that no line names."""
+        frame = behind + 1
+        while frame in self.used:
+            frame += 1
+        self.use(frame)
+        return frame
+
+    def span(self, line: Line, word: str) -> range:
+        """`0x0..0x7`, or one number."""
+        found = RANGE.match(word)
+        first, last = (self.value(line, part) for part in (found.groups() if found else (word, word)))
+        if last < first:
+            line.fail('`%s` goes backwards' % word)
+        if last - first >= 1 << 16:
+            line.fail('`%s` has more than 65536 pages' % word)
+        return range(first, last + 1)
+
+
+def call_addr(draft: Draft, line: Line, parts: List[int]) -> int:
+    need_parts(line, 'addr(FRAME,INDEX)', parts, 2, 2)
+    return 4096 * parts[0] + 8 * parts[1]
+
+
+def call_entry(draft: Draft, line: Line, parts: List[int]) -> int:
+    need_parts(line, 'entry(FRAME)', parts, 1, 2)
+    return 4096 * parts[0] + (parts[1] if len(parts) == 2 else 7)
+
+
+def call_private(draft: Draft, line: Line, parts: List[int]) -> int:
+    need_parts(line, 'private(PAGE)', parts, 1, 1)
+    return 4096 * parts[0] + 3 + (1 << 51)
+
+
+def call_shared(draft: Draft, line: Line, parts: List[int]) -> int:
+    need_parts(line, 'shared(PAGE)', parts, 1, 1)
+    return 4096 * parts[0] + 3
+
+
+def call_leaf(draft: Draft, line: Line, parts: List[int]) -> int:
+    need_parts(line, 'leaf(ROOT,PAGE)', parts, 2, 2)
+    place = draft.leaves.get((parts[0], parts[1]))
+    if place is None:
+        line.fail('no `map` line with root %d has page %s' % (parts[0], hex_of(parts[1])))
+    return 4096 * place[0] + 8 * place[1]
+
+
+CALLS: Dict[str, Callable[[Draft, Line, List[int]], int]] = {
+    'addr': call_addr, 'entry': call_entry, 'leaf': call_leaf, 'private': call_private, 'shared': call_shared}
+
+
+def need_parts(line: Line, form: str, parts: List[int], least: int, most: int) -> None:
+    if not least <= len(parts) <= most:
+        line.fail('this should be `%s`' % form)
+
+
+def take_apart(text: str, name: str) -> Draft:
+    """The lines of a short text, each with the comments above it."""
+    draft = Draft(name)
+    comments: List[str] = []
+    for line in lines_of(text, name):
+        if line.is_passed_over:
+            comments.append(line.text)
+            continue
+        line.check_bytes()
+        draft.entries.append(Entry(line, comments if draft.entries else []))
+        if len(draft.entries) == 1:
+            draft.top = comments
+        comments = []
+    if comments and draft.entries:
+        draft.entries[-1].comments += comments
+    return draft
+
+
+def read_names(draft: Draft) -> None:
+    """The named frames; those without a number get one when all others are known."""
+    for entry in (entry for entry in draft.entries if entry.first == 'frame'):
+        words = entry.line.words
+        if len(words) not in (2, 3):
+            entry.line.fail('`frame NAME F` names frame F, and `frame NAME` one that no other line names')
+        if not NAME.match(words[1]) or words[1] in KEPT_WORDS or words[1] in CALLS:
+            entry.line.fail('`%s` can\'t be a name: names are lower-case letters, digits and `_`, and no words of scenarios' % words[1])
+        if words[1] in draft.frames:
+            entry.line.fail('`%s` is named twice' % words[1])
+        draft.frames[words[1]] = -1 if len(words) == 2 else draft.value(entry.line, words[2])
+        if len(words) == 3:
+            draft.use(draft.frames[words[1]])
+
+
+def note_frames(draft: Draft) -> None:
+    """Marks the frames that lines name, so that none of them becomes a table."""
+    for entry in draft.entries:
+        words, line = entry.line.words, entry.line
+        named: List[str] = []
+        if entry.first in ('page', 'word') and len(words) > 1:
+            named = [words[1]]
+        elif entry.first == 'map':
+            found = MAP.match(line.text)
+            named = [found.group(2), found.group(4)] if found else []
+        elif entry.first == 'actor' and 'npt' in words[:-1]:
+            named = [words[words.index('npt') + 1]]
+        else:
+            named = [words[place] for place in FRAMES_OF.get(entry.first, ()) if place < len(words)]
+        for word in named:
+            if draft.frames.get(word) != -1 and not CALL.match(word):
+                for frame in draft.span(line, word):
+                    if frame < 1 << 20:
+                        draft.use(frame)
+        if entry.first in ACCESSES and len(words) > 1 and number_of(words[1]) is not None:
+            draft.used.add((number_of(words[1]) or 0) >> 12)
+    for name in [name for name, frame in draft.frames.items() if frame == -1]:
+        draft.frames[name] = draft.free_frame(7)
+
+
+def map_page(draft: Draft, line: Line, root: int, gpn: int, frame: int, bits: int) -> List[str]:
+    """The words that map one page, with the tables that it needs and that aren't there."""
+    lines: List[str] = []
+    table = root
+    for level in (4, 3, 2):
+        index = gpn // 512 ** (level - 1) % 512
+        below = draft.tables.get((table, index))
+        if below is None:
+            below = 4096 * draft.free_frame(table) + 7
+            draft.tables[table, index] = below
+            lines.append('word %d %d %s' % (table, index, hex_of(below)))
+        if not below & 1 or level == 2 and below & 0x80:
+            line.fail('word %d of frame %d is %s, which leads to no table' % (index, table, hex_of(below)))
+        table = below >> 12 & (1 << 36) - 1
+    if (root, gpn) in draft.leaves:
+        line.fail('page %s is mapped twice under root %d' % (hex_of(gpn), root))
+    draft.leaves[root, gpn] = (table, gpn % 512)
+    draft.tables[table, gpn % 512] = 4096 * frame + bits
+    return lines + ['word %d %d %s' % (table, gpn % 512, hex_of(4096 * frame + bits))]
+
+
+def write_map(draft: Draft, entry: Entry) -> None:
+    line = entry.line
+    found = MAP.match(line.text)
+    if found is None:
+        line.fail('a map is `map GUEST root FRAME: PAGES -> FRAMES`, as `map 1 root 1: 0x0..0x7 -> 64..71`, and may end with `read-only`')
+    guest, root = draft.value(line, found.group(1)), draft.value(line, found.group(2))
+    declared = [draft.value(other.line, other.line.words[1]) for other in draft.entries
+                if other.first == 'guest' and len(other.line.words) > 1]
+    if guest not in declared:
+        line.fail('guest %d isn\'t declared' % guest)
+    pages, frames = draft.span(line, found.group(3)), draft.span(line, found.group(4))
+    if len(pages) != len(frames):
+        line.fail('%d pages are mapped to %d frames' % (len(pages), len(frames)))
+    for gpn, frame in zip(pages, frames):
+        entry.plain += map_page(draft, line, root, gpn, frame, 5 if found.group(5) else 7)
+
+
+def write_guest(draft: Draft, entry: Entry) -> None:
+    """A guest line, with the counter 0 and a key of zeros where they are left out."""
+    words = entry.line.words
+    if len(words) in (5, 7) and words[3] == 'asid' and 'key' not in words:
+        words = words + ([] if len(words) == 7 else ['iv', '0']) + ['key', KEY]
+    entry.plain = [' '.join(words[:1] + [draft.plain_word(entry.line, word) if k < 7 else word for k, word in enumerate(words[1:])])]
+
+
+def write_page(draft: Draft, entry: Entry) -> None:
+    """A page line, or one for each of several frames; what is left out is `4k valid 0 0 0`."""
+    line, words = entry.line, entry.line.words
+    if len(words) < 6 or words[2] != 'of' or words[4] != 'at':
+        line.fail('a page is `page FRAMES of GUEST at PAGE`, with `4k valid 0 0 0` behind it or another end')
+    words = words + ['4k', 'valid', '0', '0', '0'][len(words) - 6:]
+    frames, first = draft.span(line, words[1]), draft.span(line, words[5])
+    if len(first) not in (1, len(frames)):
+        line.fail('%d frames are %d pages' % (len(frames), len(first)))
+    if len(frames) == 1:
+        entry.plain = [' '.join(words[:1] + [draft.plain_word(line, word) for word in words[1:]])]
+        return
+    for k, frame in enumerate(frames):
+        entry.plain.append('page %d of %s at %s %s' % (frame, draft.plain_word(line, words[3]), hex_of(first[0] + k), ' '.join(words[6:])))
+
+
+def note_word(draft: Draft, entry: Entry) -> None:
+    """A `word` line as a part of tables that a map may go on with."""
+    words = entry.line.words
+    if len(words) == 4:
+        frame, index, word = (draft.value(entry.line, part) if not part.startswith('leaf(') else -1 for part in words[1:])
+        draft.tables[frame, index] = word
+
+
+def write_plain(draft: Draft, entry: Entry) -> None:
+    words = entry.line.words
+    entry.plain = [' '.join(words[:1] + [draft.plain_word(entry.line, word) for word in words[1:]])]
+
+
+def section(entry: Entry, before: int) -> int:
+    """The part of a scenario that a line belongs to; items belong to the actors."""
+    return SECTIONS.get(entry.first, SECTIONS['actor'] if before >= 0 else -1)
+
+
+def write_entries(draft: Draft) -> None:
+    """The plain lines of each entry but those of the order."""
+    read_names(draft)
+    note_frames(draft)
+    for entry in draft.entries:
+        if entry.first == 'word':
+            note_word(draft, entry)
+    for entry in draft.entries:
+        if entry.first == 'map':
+            write_map(draft, entry)
+    for entry in draft.entries:
+        if entry.first == 'guest':
+            write_guest(draft, entry)
+        elif entry.first == 'page':
+            write_page(draft, entry)
+        elif entry.first not in ('map', 'frame', 'order'):
+            write_plain(draft, entry)
+
+
+def completed(draft: Draft) -> List[Entry]:
+    """The entries in the order of a scenario, with `snp`, `regions` and `end` where they are left out."""
+    firsts = [entry.first for entry in draft.entries]
+    made = list(draft.entries)
+
+    def add(text: str) -> None:
+        made.append(Entry(Line(draft.name, 0, text), [], [text]))
+
+    if 'snp' not in firsts:
+        add('snp %d' % (2 if any('la57' in entry.line.words for entry in draft.entries) else 1))
+    if 'regions' not in firsts:
+        add('regions %d' % (draft.highest // 512 + 1))
+    if 'end' not in firsts:
+        add('end')
+    for entry in made:
+        if entry.first not in SECTIONS and entry.first not in OPERANDS and entry.first != 'skip':
+            entry.line.fail('`%s` begins no line of a scenario, short or plain' % entry.first)
+    return sorted(made, key=lambda entry: SECTIONS.get(entry.first, SECTIONS['actor']))
+
+
+def text_of(entries: List[Entry]) -> List[str]:
+    """The lines of entries, each with its short form in a comment where that differs."""
+    lines: List[str] = []
+    for entry in entries:
+        lines += entry.comments
+        if entry.plain != [entry.line.text]:
+            lines.append('# ' + entry.line.text)
+        lines += entry.plain
+    return lines
+
+
+def written(text: str, name: str, program: Callable[[], Program]) -> str:
+    """The plain scenario of a short one. The program is asked only where the order is by items."""
+    draft = take_apart(text, name)
+    if not draft.entries:
+        raise Complaint('there is no line in this text', name)
+    write_entries(draft)
+    entries = completed(draft)
+    head = draft.top + text_of([entry for entry in entries if entry.first not in ('order', 'end')])
+    planner: Optional[order.Planner] = None
+    for entry in entries:
+        if entry.first == 'order':
+            planner = planner or order.Planner(head, program)
+            entry.plain = planner.take(entry.line)
+    return '\n'.join(head + text_of([entry for entry in entries if entry.first in ('order', 'end')])) + '\n'
