@@ -13,7 +13,7 @@ use crate::shown::Shown;
 use crate::walk_words::WalkWords;
 use crate::walking::{item_stands, no_walk};
 use arrayvec::ArrayVec;
-use snp_model::{Actor, Deed, Event, GuestEnd, Line, Listed, Outcome, OutcomeClass, Role};
+use snp_model::{Actor, Deed, Event, GuestEnd, Item, Line, Listed, Outcome, OutcomeClass, Role};
 use std::alloc::{AllocError, Global};
 use std::marker::Model;
 
@@ -110,8 +110,16 @@ impl ActorState {
         self.script.len() <= self.item
     }
 
-    /// The line that the actor is at.
-    pub fn line(&self) -> Line
+    /// The item that the actor is at.
+    pub fn item(&self) -> &Item
+        requires { self.now.item < length self.now.script }
+        ensures { result.now ≡ (line_at self.now.script self.now.item).item }
+    {
+        &line_at(&self.script, self.item).item
+    }
+
+    // The line that the actor is at.
+    fn line(&self) -> Line
         requires { self.now.item < length self.now.script }
         ensures { result ≡ line_at self.now.script self.now.item }
     {
@@ -143,14 +151,18 @@ impl ActorState {
         ensures event { result ≡ record { item = self.old.item; attempt = self.old.attempt; deed = shown.now.deed; outcome = shown.now.outcome } }
         ensures part { (after : View) → self.new ≡ part_after self.old (move_by shown.now after self.old.standing) shown.now.outcome }
     {
-        let event = Event {
-            item: self.item as u32,
-            attempt: self.attempt,
-            deed: shown.deed,
-            outcome: shown.outcome,
-        };
+        let item = self.item as u32;
+        let attempt = self.attempt;
         match shown.outcome {
-            None => self.keep(shown.deed),
+            None => {
+                self.keep(shown.deed);
+                Event {
+                    item,
+                    attempt,
+                    deed: shown.deed,
+                    outcome: None,
+                }
+            }
             Some(outcome) => {
                 let line = self.line();
                 if tries_again(&line, self.attempt, &outcome) {
@@ -162,9 +174,14 @@ impl ActorState {
                 self.deeds.clear();
                 self.words.clear();
                 self.last = last_after(self.last, outcome);
+                Event {
+                    item,
+                    attempt,
+                    deed: shown.deed,
+                    outcome: Some(outcome),
+                }
             }
         }
-        event
     }
 }
 

@@ -75,9 +75,9 @@ pub fn index_of(address: u64) -> u16
 
 // The beginning of an item that has no refusal of its own.
 #[tactic(auto, unfolding(snp_model::specs::Moves::begin_move))]
-fn begin(guests: &[GuestSpec], walker: &Walker) -> Shown
+fn begin(guests: &[GuestSpec], walker: &Walker, shown: &mut Shown)
     requires { 0 < walker.now.cpu.guest }
-    ensures { (after : View) (part : ActorPart) → begin_move after.contents part (opening_contexts guests.now walker.now.cpu.guest) (levels_of walker.now.cpu.paging) walker.now.lookup.address None ≡ move_by result after part.standing }
+    ensures { (after : View) (part : ActorPart) → begin_move after.contents part (opening_contexts guests.now walker.now.cpu.guest) (levels_of walker.now.cpu.paging) walker.now.lookup.address None ≡ move_by shown.new after part.standing }
 {
     let outcome = if !is_running(guests, walker.cpu.guest) {
         Some(Outcome::Offline)
@@ -86,10 +86,10 @@ fn begin(guests: &[GuestSpec], walker: &Walker) -> Shown
     } else {
         None
     };
-    Shown {
+    *shown = Shown {
         deed: Deed::Begin,
         outcome,
-    }
+    };
 }
 
 // The event of reading a word of a nested table.
@@ -102,7 +102,8 @@ fn read_nested<P: Parts>(
     stands: GuestEnd,
     frame: u32,
     index: u16,
-) -> Shown
+    shown: &mut Shown,
+)
     requires npt { walker.now.cpu.npt < frames }
     requires inside { IsGuestInside stands }
     requires stands { stands ≡ guest_stands walker.now.cpu.paging walker.now.lookup (guest_words actor.now.deeds) }
@@ -110,19 +111,19 @@ fn read_nested<P: Parts>(
     requires has { HasFrame (P.stock parts.now) frame }
     requires index { index < 512 }
     ensures { let deed = Nested frame index (table_word (pages_of (P.stock parts.now).bays frame) index) in
-        result ≡ record { deed = deed; outcome = fault_of (need_after frames (processor_of walker.now.cpu) walker.now.lookup (actor.now.deeds ++ deed ∷ [])) } }
+        shown.new ≡ record { deed = deed; outcome = fault_of (need_after frames (processor_of walker.now.cpu) walker.now.lookup (actor.now.deeds ++ deed ∷ [])) } }
 {
     let value = table_word(parts, frame, index);
     let npt = walker.cpu.npt;
     let words = actor.nested_words();
-    Shown {
+    *shown = Shown {
         deed: Deed::Nested {
             frame,
             index,
             value,
         },
         outcome: fault_by_nested(frames, npt, &walker.lookup, stands, words, value),
-    }
+    };
 }
 
 // The event of reading a word of a guest table, with its check.
@@ -133,19 +134,20 @@ fn read_table<P: Parts>(
     walker: &Walker,
     place: &Place,
     frame: u32,
-) -> Shown
+    shown: &mut Shown,
+)
     requires paging { IsPaging walker.now.cpu.paging }
     requires has { HasFrame (P.stock parts.now) frame }
     requires place { IsPlace place.now }
     requires slot { place.now.slot ≡ frame % 512 }
     ensures { (frames : ℕ) → let page = pages_of (P.stock parts.now).bays frame in
-        result ≡ table_shown (table_load (private_verdict page.facts place.now Load) (word_of page place.now.index)) place.now.gpn place.now.index frame
+        shown.new ≡ table_shown (table_load (private_verdict page.facts place.now Load) (word_of page place.now.index)) place.now.gpn place.now.index frame
         (λ value. fault_of (need_after frames (processor_of walker.now.cpu) walker.now.lookup (actor.now.deeds ++ Table place.now.gpn place.now.index frame (Some value) ∷ []))) }
 {
     let gpn = place.gpn;
     let index = place.index as u16;
     match guest_table_word(parts, frame, place) {
-        Ok(word) => Shown {
+        Ok(word) => *shown = Shown {
             deed: Deed::Table {
                 gpn,
                 index,
@@ -161,7 +163,7 @@ fn read_table<P: Parts>(
                 frame,
                 value: None,
             };
-            Shown::last(deed, outcome)
+            *shown = Shown::last(deed, outcome);
         }
     }
 }
@@ -222,13 +224,13 @@ fn data_place(
 }
 
 // The event of the access itself, at the frame that its walks have come to.
-fn reach<P: Parts>(parts: &mut P, place: &Place, frame: u32, op: &Op) -> Shown
+fn reach<P: Parts>(parts: &mut P, place: &Place, frame: u32, op: &Op, shown: &mut Shown)
     requires has { HasFrame (P.stock parts.old) frame }
     requires place { IsPlace place.now }
     requires slot { place.now.slot ≡ frame % 512 }
     ensures moves { (guests : List GuestSpec) (part : ActorPart) → let before = view_on (P.stock parts.old) guests in
         access_move before.contents part (Access place.now.gpn place.now.index frame place.now.private) (guest_verdict (before.contents.pages frame).facts place.now op.now) op.now frame place.now.index
-        ≡ move_by result (view_on (P.stock parts.new) guests) part.standing }
+        ≡ move_by shown.new (view_on (P.stock parts.new) guests) part.standing }
     ensures locks { locks_of (P.stock parts.new) ≡ locks_of (P.stock parts.old) }
     ensures kept { P.kept parts.old parts.new }
 {
@@ -239,7 +241,7 @@ fn reach<P: Parts>(parts: &mut P, place: &Place, frame: u32, op: &Op) -> Shown
         frame,
         private: place.private,
     };
-    Shown::last(deed, outcome)
+    *shown = Shown::last(deed, outcome);
 }
 
 /// The next event of an access of a guest's processor, in memory of so many frames.
@@ -252,7 +254,8 @@ pub fn cpu_access<P: Parts>(
     walker: &Walker,
     op: &Op,
     stands: GuestEnd,
-) -> Shown
+    shown: &mut Shown,
+)
     requires cpu { IsCpu frames (length guests.now) walker.now.cpu.guest walker.now.cpu.vmpl walker.now.cpu.npt walker.now.cpu.paging }
     requires stands { IsBegun actor.now.deeds → stands ≡ guest_stands walker.now.cpu.paging walker.now.lookup (guest_words actor.now.deeds) }
     requires inside { IsGuestInside stands }
@@ -260,13 +263,13 @@ pub fn cpu_access<P: Parts>(
     ensures moves { let before = view_on (P.stock parts.old) guests.now in
         let cpu = processor_of walker.now.cpu in
         walked_move frames guests.now before.contents actor.now cpu walker.now.lookup None (data_move guests.now before.contents actor.now cpu walker.now.lookup.address op.now) actor.now.deeds
-        ≡ move_by result (view_on (P.stock parts.new) guests.now) actor.now.standing }
+        ≡ move_by shown.new (view_on (P.stock parts.new) guests.now) actor.now.standing }
     ensures locks { locks_of (P.stock parts.new) ≡ locks_of (P.stock parts.old) }
     ensures kept { P.kept parts.old parts.new }
 {
     let cpu = walker.cpu;
     if actor.deeds().is_empty() {
-        return begin(guests, walker);
+        return begin(guests, walker, shown);
     }
     match walk_need(
         frames,
@@ -276,7 +279,7 @@ pub fn cpu_access<P: Parts>(
         actor.nested_words(),
     ) {
         Need::Nested { frame, index } => {
-            read_nested(parts, frames, actor, walker, stands, frame, index)
+            read_nested(parts, frames, actor, walker, stands, frame, index, shown)
         }
         Need::Table {
             gpn,
@@ -285,7 +288,7 @@ pub fn cpu_access<P: Parts>(
             size,
         } => {
             let place = table_place(guests, cpu, gpn, index, frame, size);
-            read_table(parts, actor, walker, &place, frame)
+            read_table(parts, actor, walker, &place, frame, shown)
         }
         Need::Data {
             gpn,
@@ -294,8 +297,8 @@ pub fn cpu_access<P: Parts>(
             size,
         } => {
             let place = data_place(guests, walker, gpn, private, frame, size);
-            reach(parts, &place, frame, op)
+            reach(parts, &place, frame, op, shown)
         }
-        Need::Fault(_) => Shown::faulted(),
+        Need::Fault(_) => *shown = Shown::faulted(),
     }
 }

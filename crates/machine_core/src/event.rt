@@ -21,12 +21,13 @@ use crate::walking::lookup_of;
 use snp_model::{Event, GuestEnd, GuestSpec, Item, Role};
 
 /// Makes the next event of an unfinished actor in memory of so many frames: the step of the tables, over
-/// parts that have the regions that it touches. Takes no memory.
+/// parts that have the regions that it touches. What it shows is written to a place that is there. Takes no memory.
 pub(crate) fn advance<P: Parts>(
     actor: &mut ActorState,
     frames: u32,
     guests: &[GuestSpec],
     parts: &mut P,
+    shown: &mut Shown,
 ) -> Event
     requires ready { IsReady frames guests.now actor.old }
     requires unfinished { actor.old.item < length actor.old.script }
@@ -39,8 +40,8 @@ pub(crate) fn advance<P: Parts>(
     ensures locks { locks_of (P.stock parts.new) ≡ locks_of (P.stock parts.old) }
     ensures kept { P.kept parts.old parts.new }
 {
-    let shown = next_event(parts, frames, guests, actor);
-    actor.take_down(&shown)
+    next_event(parts, frames, guests, actor, shown);
+    actor.take_down(shown)
 }
 
 // What the next event of an unfinished actor shows; the parts are then as after it.
@@ -50,16 +51,17 @@ fn next_event<P: Parts>(
     frames: u32,
     guests: &[GuestSpec],
     actor: &ActorState,
-) -> Shown
+    shown: &mut Shown,
+)
     requires ready { IsReady frames guests.now actor.now }
     requires unfinished { actor.now.item < length actor.now.script }
     requires has { HasAll frames guests.now actor.now (P.stock parts.old) }
     ensures moves { item_move frames guests.now (view_on (P.stock parts.old) guests.now) actor.now actor.now.role (line_at actor.now.script actor.now.item).item
-        ≡ move_by result (view_on (P.stock parts.new) guests.now) actor.now.standing }
+        ≡ move_by shown.new (view_on (P.stock parts.new) guests.now) actor.now.standing }
     ensures locks { locks_of (P.stock parts.new) ≡ locks_of (P.stock parts.old) }
     ensures kept { P.kept parts.old parts.new }
 {
-    let line = actor.line();
+    let item = actor.item();
     match actor.role() {
         Role::Cpu {
             guest,
@@ -79,12 +81,13 @@ fn next_event<P: Parts>(
                 guests,
                 actor,
                 cpu,
-                line.item,
+                item,
                 actor.guest_stands(),
+                shown,
             )
         }
-        Role::Host => host_event(parts, frames, guests, actor, line.item),
-        Role::Firmware => firmware_event(parts, frames, guests, actor, line.item),
+        Role::Host => host_event(parts, frames, guests, actor, item, shown),
+        Role::Firmware => firmware_event(parts, frames, guests, actor, item, shown),
     }
 }
 
@@ -96,16 +99,17 @@ fn cpu_event<P: Parts>(
     guests: &[GuestSpec],
     actor: &ActorState,
     cpu: Processor,
-    item: Item,
+    item: &Item,
     stands: GuestEnd,
-) -> Shown
+    shown: &mut Shown,
+)
     requires cpu { IsCpu frames (length guests.now) cpu.guest cpu.vmpl cpu.npt cpu.paging }
-    requires item { IsItemOf frames (Cpu cpu.guest cpu.vmpl cpu.npt cpu.paging) item }
-    requires stands { IsBegun actor.now.deeds → stands ≡ stands_of (Cpu cpu.guest cpu.vmpl cpu.npt cpu.paging) item (guest_words actor.now.deeds) }
+    requires item { IsItemOf frames (Cpu cpu.guest cpu.vmpl cpu.npt cpu.paging) item.now }
+    requires stands { IsBegun actor.now.deeds → stands ≡ stands_of (Cpu cpu.guest cpu.vmpl cpu.npt cpu.paging) item.now (guest_words actor.now.deeds) }
     requires inside { IsGuestInside stands }
-    requires has { HasTouched (item_touches frames guests.now actor.now (Cpu cpu.guest cpu.vmpl cpu.npt cpu.paging) item) (P.stock parts.old) }
-    ensures moves { item_move frames guests.now (view_on (P.stock parts.old) guests.now) actor.now (Cpu cpu.guest cpu.vmpl cpu.npt cpu.paging) item
-        ≡ move_by result (view_on (P.stock parts.new) guests.now) actor.now.standing }
+    requires has { HasTouched (item_touches frames guests.now actor.now (Cpu cpu.guest cpu.vmpl cpu.npt cpu.paging) item.now) (P.stock parts.old) }
+    ensures moves { item_move frames guests.now (view_on (P.stock parts.old) guests.now) actor.now (Cpu cpu.guest cpu.vmpl cpu.npt cpu.paging) item.now
+        ≡ move_by shown.new (view_on (P.stock parts.new) guests.now) actor.now.standing }
     ensures locks { locks_of (P.stock parts.new) ≡ locks_of (P.stock parts.old) }
     ensures kept { P.kept parts.old parts.new }
 {
@@ -113,16 +117,16 @@ fn cpu_event<P: Parts>(
         Item::Access { address, op } => {
             let walker = Walker {
                 cpu,
-                lookup: lookup_of(address, &op),
+                lookup: lookup_of(*address, op),
             };
-            cpu_access(parts, frames, guests, actor, &walker, &op, stands)
+            cpu_access(parts, frames, guests, actor, &walker, op, stands, shown)
         }
-        Item::Pvalidate { .. } => Shown::unbuilt(),
-        Item::Rmpadjust { .. } => Shown::unbuilt(),
-        Item::Rmpupdate(_) => Shown::misplaced(),
-        Item::Psmash { .. } => Shown::misplaced(),
-        Item::Firmware(_) => Shown::misplaced(),
-        Item::Skip { count, test } => skip(actor, count, &test),
+        Item::Pvalidate { .. } => *shown = Shown::unbuilt(),
+        Item::Rmpadjust { .. } => *shown = Shown::unbuilt(),
+        Item::Rmpupdate(_) => *shown = Shown::misplaced(),
+        Item::Psmash { .. } => *shown = Shown::misplaced(),
+        Item::Firmware(_) => *shown = Shown::misplaced(),
+        Item::Skip { count, test } => *shown = skip(actor, *count, test),
     }
 }
 
@@ -133,23 +137,24 @@ fn host_event<P: Parts>(
     frames: u32,
     guests: &[GuestSpec],
     actor: &ActorState,
-    item: Item,
-) -> Shown
-    requires item { IsItemOf frames Host item }
-    requires has { HasTouched (item_touches frames guests.now actor.now Host item) (P.stock parts.old) }
-    ensures moves { item_move frames guests.now (view_on (P.stock parts.old) guests.now) actor.now Host item
-        ≡ move_by result (view_on (P.stock parts.new) guests.now) actor.now.standing }
+    item: &Item,
+    shown: &mut Shown,
+)
+    requires item { IsItemOf frames Host item.now }
+    requires has { HasTouched (item_touches frames guests.now actor.now Host item.now) (P.stock parts.old) }
+    ensures moves { item_move frames guests.now (view_on (P.stock parts.old) guests.now) actor.now Host item.now
+        ≡ move_by shown.new (view_on (P.stock parts.new) guests.now) actor.now.standing }
     ensures locks { locks_of (P.stock parts.new) ≡ locks_of (P.stock parts.old) }
     ensures kept { P.kept parts.old parts.new }
 {
     match item {
-        Item::Access { address, op } => host_access(parts, frames, address, &op),
-        Item::Pvalidate { .. } => Shown::misplaced(),
-        Item::Rmpadjust { .. } => Shown::misplaced(),
-        Item::Rmpupdate(_) => Shown::unbuilt(),
-        Item::Psmash { .. } => Shown::unbuilt(),
-        Item::Firmware(_) => Shown::misplaced(),
-        Item::Skip { count, test } => skip(actor, count, &test),
+        Item::Access { address, op } => host_access(parts, frames, *address, op, shown),
+        Item::Pvalidate { .. } => *shown = Shown::misplaced(),
+        Item::Rmpadjust { .. } => *shown = Shown::misplaced(),
+        Item::Rmpupdate(_) => *shown = Shown::unbuilt(),
+        Item::Psmash { .. } => *shown = Shown::unbuilt(),
+        Item::Firmware(_) => *shown = Shown::misplaced(),
+        Item::Skip { count, test } => *shown = skip(actor, *count, test),
     }
 }
 
@@ -160,19 +165,20 @@ fn firmware_event<P: Parts>(
     frames: u32,
     guests: &[GuestSpec],
     actor: &ActorState,
-    item: Item,
-) -> Shown
-    requires item { IsItemOf frames Firmware item }
-    ensures { item_move frames guests.now (view_on (P.stock parts.now) guests.now) actor.now Firmware item
-        ≡ move_by result (view_on (P.stock parts.now) guests.now) actor.now.standing }
+    item: &Item,
+    shown: &mut Shown,
+)
+    requires item { IsItemOf frames Firmware item.now }
+    ensures { item_move frames guests.now (view_on (P.stock parts.now) guests.now) actor.now Firmware item.now
+        ≡ move_by shown.new (view_on (P.stock parts.now) guests.now) actor.now.standing }
 {
     match item {
-        Item::Access { .. } => Shown::misplaced(),
-        Item::Pvalidate { .. } => Shown::misplaced(),
-        Item::Rmpadjust { .. } => Shown::misplaced(),
-        Item::Rmpupdate(_) => Shown::misplaced(),
-        Item::Psmash { .. } => Shown::misplaced(),
-        Item::Firmware(_) => Shown::unbuilt(),
-        Item::Skip { count, test } => skip(actor, count, &test),
+        Item::Access { .. } => *shown = Shown::misplaced(),
+        Item::Pvalidate { .. } => *shown = Shown::misplaced(),
+        Item::Rmpadjust { .. } => *shown = Shown::misplaced(),
+        Item::Rmpupdate(_) => *shown = Shown::misplaced(),
+        Item::Psmash { .. } => *shown = Shown::misplaced(),
+        Item::Firmware(_) => *shown = Shown::unbuilt(),
+        Item::Skip { count, test } => *shown = skip(actor, *count, test),
     }
 }

@@ -11,6 +11,7 @@ use crate::actor::ActorState;
 use crate::building::{free_parts, make_actors, set_pages, set_words};
 use crate::event::advance;
 use crate::parts::OwnParts;
+use crate::shown::Shown;
 use snp_model::{Event, GuestLine, GuestSpec, GuestState, Listed, Scenario};
 use std::alloc::{AllocError, Global};
 use std::marker::Model;
@@ -22,6 +23,8 @@ pub struct Machine {
     parts: OwnParts,
     guests: Listed<GuestSpec>,
     actors: Vec<ActorState>,
+    // What the last event showed: a place for the next.
+    shown: Shown,
 }
 
 impl Model for Machine {
@@ -50,6 +53,7 @@ impl Machine {
             parts,
             guests,
             actors,
+            shown: Shown::faulted(),
         })
     }
 
@@ -63,7 +67,13 @@ impl Machine {
     {
         let frames = 512 * self.parts.bays.len() as u32;
         let state = &mut self.actors[actor as usize - 1];
-        advance(state, frames, self.guests.as_slice(), &mut self.parts)
+        advance(
+            state,
+            frames,
+            self.guests.as_slice(),
+            &mut self.parts,
+            &mut self.shown,
+        )
     }
 
     /// Whether an actor has passed its last item, or doesn't exist.

@@ -6,5 +6,5 @@ use Rattle.machine_core.proofs.event.advance.Goals as goal
 
 pub returns-clause-part : goal.returns-clause-part
 returns-clause-part g c =
-    let after = view_on (g.P.Parts.stock c.next_event-shown.new.parts) c.args.guests.now in
-    c.take_down.ensures.part after ∙ ap (λ (m : Move). part_after c.args.actor.now m m.outcome) (sym c.next_event-shown.ensures.moves)
+    let after = view_on (g.P.Parts.stock c.next_event.new.parts) c.args.guests.now in
+    c.take_down.ensures.part after ∙ ap (λ (m : Move). part_after c.args.actor.now m m.outcome) (sym c.next_event.ensures.moves)
