@@ -1,30 +1,18 @@
 -- The blocks of a string, one at a time.
-use Rattle.std.proofs.Common.{◌≡◌, ℕ, ◌+◌, ◌-◌, ◌/◌, ◌%◌, ◌^◌, ◌<◌, ◌≤◌, suc, zero, List, [], ◌∷◌, ◌++◌, length, min, map, get_or, set, take, drop, refl, ap, sym, inl, inr, ◌∙◌, arith}
-use Rattle.std.proofs.lemmas.List.{append-nil, length-drop, nil_from_length, take-append-drop, length-append, append_assoc, take_all, drop_all, length-take, take_min, drop_min, drop-drop, drop_more, drop-set-lt, take_more_set, take_at, drop_at}
+use Rattle.std.proofs.Common.{◌≡◌, ℕ, ◌+◌, ◌-◌, ◌%◌, ◌^◌, ◌<◌, ◌≤◌, List, [], ◌∷◌, ◌++◌, length, min, map, get_or, set, take, drop, refl, ap, sym, ◌∙◌, arith}
+use Rattle.std.proofs.lemmas.List.{append-nil, length-drop, append_assoc, take_all, drop_all, length-take, take_min, drop_min, drop-drop, drop_more, drop-set-lt, take_more_set, take_at, drop_at}
 use Rattle.std.proofs.lemmas.Nat.{from_be_bytes-to_be_bytes_4}
 use Rattle.std.specs.Int.{w32, w128, to_be_bytes, from_be_bytes}
 use Rattle.std.proofs.lemmas.Slice.{take-put_mid, drop-put_mid}
 use borrow.Rule.Slice.PartMut.{put_mid}
-use Rattle.std.specs.Int.Bits.{bit_xor, xor_assoc, xor_self, xor_zero_r}
+use Rattle.std.specs.Int.Bits.{bit_xor}
 use Rattle.snp_model.specs.Polynomials.{bytes_of, coefficients, plus, product, zero_polynomial}
 use Rattle.snp_model.specs.Aes.{cipher}
 use Rattle.gcm_seal.specs.Words.{word_coefficients, counter_block}
 use Rattle.gcm_seal.proofs.Words.{word_coefficients-xor, word_coefficients-zero}
 use Rattle.gcm_seal.proofs.Bytes.{bytes_from_word}
-use Rattle.std.proofs.lemmas.Bool.{cases_lt}
-use Rattle.snp_model.specs.Gcm.{before_first, blocks, first_blocks, hash_subkey, hashed, lengths_block, plain, tag, gctr, gctr_blocks, ghash, inc32, padded, xor_bytes}
-
-pub blocks-nil : (text : List ℕ) → length text ≡ 0 → blocks text ≡ []
-unfolding blocks first_blocks
-blocks-nil text none =
-    let count : (length text + 15) / 16 ≡ 0 = omega arith in
-    ap (λ n. first_blocks n text) count
-
-pub blocks-more : (text : List ℕ) → 0 < length text → blocks text ≡ take 16 text ∷ blocks (drop 16 text)
-unfolding blocks first_blocks
-blocks-more text some =
-    let count : (length text + 15) / 16 ≡ suc ((length (drop 16 text) + 15) / 16) = omega (arith, length-drop 16 text) in
-    ap (λ n. first_blocks n text) count
+pub use Rattle.snp_model.proofs.GctrLaws.{blocks-nil, blocks-more, length-xor_bytes, gctr-nil, gctr-more}
+use Rattle.snp_model.specs.Gcm.{before_first, blocks, hash_subkey, hashed, lengths_block, plain, tag, gctr, ghash, inc32, padded, xor_bytes}
 
 -- the block at `at`, and what follows it
 piece_is : (text : List ℕ) (at end : ℕ) → at < length text → end ≡ min (length text) (at + 16) → take (end - at) (drop at text) ≡ take 16 (drop at text)
@@ -73,27 +61,6 @@ xor_step block mask whole i x m inside in_mask is_x is_m before =
 pub xor_nothing : (mask : List ℕ) → xor_bytes [] mask ≡ []
 unfolding xor_bytes
 xor_nothing mask = refl
-
-pub length-xor_bytes : (block mask : List ℕ) → length (xor_bytes block mask) ≡ length block
-unfolding xor_bytes
-length-xor_bytes [] mask = refl
-length-xor_bytes (b ∷ block) [] = refl
-length-xor_bytes (b ∷ block) (m ∷ mask) = ap suc (length-xor_bytes block mask)
-
-pub xor_twice : (block mask : List ℕ) → xor_bytes (xor_bytes block mask) mask ≡ block
-unfolding xor_bytes
-xor_twice [] mask = refl
-xor_twice (b ∷ block) [] = refl
-xor_twice (b ∷ block) (m ∷ mask) = rw (xor_assoc, xor_self, xor_zero_r, xor_twice block mask)
-
--- GCTR takes one block, or ends
-pub gctr-nil : (key counter text : List ℕ) → length text ≡ 0 → gctr key counter text ≡ []
-unfolding gctr gctr_blocks
-gctr-nil key counter text none = ap (gctr_blocks key counter) (blocks-nil text none)
-
-pub gctr-more : (key counter text : List ℕ) → 0 < length text → gctr key counter text ≡ xor_bytes (take 16 text) (cipher key counter) ++ gctr key (inc32 counter) (drop 16 text)
-unfolding gctr gctr_blocks
-gctr-more key counter text some = ap (gctr_blocks key counter) (blocks-more text some)
 
 -- the next counter block
 pub inc32-count : (iv : List ℕ) (n : ℕ) → length iv ≡ 12 → n < 2 ^ 32 → inc32 (counter_block iv n) ≡ counter_block iv ((n + 1) % 2 ^ 32)
@@ -163,43 +130,3 @@ unfolding tag
 tag_is key iv aad text now h hash is_h is_hash is =
     is ∙ ap (gctr key (counter_block iv 1)) (sym (bytes_from_word hash) ∙ ap bytes_of (is_hash ∙ ap (λ k. ghash k zero_polynomial (hashed aad text)) is_h))
     ∙ ap (λ c. gctr key c (bytes_of (ghash (hash_subkey key) zero_polynomial (hashed aad text)))) (sym (before_first_is iv))
-
--- a block that is added, and the rest after it: where the block is short, nothing follows
-first_added : (text x rest : List ℕ) → length x ≡ length (take 16 text) → (length text ≤ 16 → rest ≡ []) → (take 16 (x ++ rest) ≡ x) × (drop 16 (x ++ rest) ≡ rest)
-first_added text x rest same none = elim (cases_lt (length text) 17) [
-  | inl short ↦
-      (let empty : rest ≡ [] = none (omega arith) in
-      let len : length (x ++ []) ≤ 16 = omega (arith, length-append x [], length-take 16 text) in (
-        ap (λ r. take 16 (x ++ r)) empty ∙ take_all 16 (x ++ []) len ∙ append-nil x,
-        ap (λ r. drop 16 (x ++ r)) empty ∙ drop_all 16 (x ++ []) len ∙ sym empty,
-      ))
-  | inr long ↦
-      (let len : length x ≡ 16 = omega (arith, length-take 16 text) in
-      (take_at x rest 16 len, drop_at x rest 16 len))
-]
-
-gctr_twice_up_to : (n : ℕ) (key counter text : List ℕ) → length text ≤ n → gctr key counter (gctr key counter text) ≡ text
-gctr_twice_up_to zero key counter text short =
-    let none : length text ≡ 0 = omega arith in
-    ap (gctr key counter) (gctr-nil key counter text none) ∙ gctr-nil key counter [] refl ∙ sym (nil_from_length text none)
-gctr_twice_up_to (suc n) key counter text short = elim (cases_lt 0 (length text)) [
-  | inl some ↦
-      (let mask = cipher key counter in
-      let x = xor_bytes (take 16 text) mask in
-      let rest = gctr key (inc32 counter) (drop 16 text) in
-      let parts = first_added text x rest (length-xor_bytes (take 16 text) mask) (λ (s : length text ≤ 16). gctr-nil key (inc32 counter) (drop 16 text) (omega (arith, length-drop 16 text))) in
-      let len : 0 < length (x ++ rest) = omega (arith, length-append x rest, length-xor_bytes (take 16 text) mask, length-take 16 text) in
-      let again : gctr key (inc32 counter) rest ≡ drop 16 text = gctr_twice_up_to n key (inc32 counter) (drop 16 text) (omega (arith, length-drop 16 text)) in
-      ap (gctr key counter) (gctr-more key counter text some)
-      ∙ gctr-more key counter (x ++ rest) len
-      ∙ (λ i. xor_bytes (parts.0 i) mask ++ gctr key (inc32 counter) (parts.1 i))
-      ∙ (λ i. xor_twice (take 16 text) mask i ++ again i)
-      ∙ take-append-drop 16 text)
-  | inr none ↦
-      (let empty : length text ≡ 0 = omega arith in
-      ap (gctr key counter) (gctr-nil key counter text empty) ∙ gctr-nil key counter [] refl ∙ sym (nil_from_length text empty))
-]
-
--- GCTR undoes itself
-pub gctr_twice : (key counter text : List ℕ) → gctr key counter (gctr key counter text) ≡ text
-gctr_twice key counter text = gctr_twice_up_to (length text) key counter text (omega arith)

@@ -75,7 +75,7 @@ pub fn unseal(
 }
 
 /// To unseal what was sealed gives the text back: its tag is the one that was made, and its plaintext is the text.
-#[tactic(auto, using(crate::proofs::Blocks::gctr_twice), unfolding(snp_model::specs::Gcm::seal, snp_model::specs::Gcm::plain))]
+#[tactic(auto, using(snp_model::proofs::GctrLaws::gctr_twice), unfolding(snp_model::specs::Gcm::seal, snp_model::specs::Gcm::plain))]
 pub fn unsealing_undoes_sealing()
     ensures tag { (key iv aad text : List ℕ) → let sealed = seal key iv aad text in tag key iv aad sealed.0 ≡ sealed.1 }
     ensures text { (key iv aad text : List ℕ) → plain key iv (seal key iv aad text).0 ≡ text }
