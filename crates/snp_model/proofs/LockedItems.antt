@@ -95,7 +95,7 @@ large_after update first size other same =
     [ true ↦ same | false ↦ λ e. e ]
 
 -- whether a frame is in a range
-by_range : (b : Bool) (P : Type 0) → (b ≡ true → P) → (b ≡ false → P) → P
+pub by_range : (b : Bool) (P : Type 0) → (b ≡ true → P) → (b ≡ false → P) → P
 by_range true P inside beside = inside refl
 by_range false P inside beside = beside refl
 
