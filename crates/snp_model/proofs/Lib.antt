@@ -13,6 +13,7 @@ pub mod GuestMemoryLaws
 pub mod GuestReadsLaws
 pub mod HeldLocksLaws
 pub mod InstructionLocality
+pub mod LargePages
 pub mod LocalityLaws
 pub mod LockLaws
 pub mod LockedItems

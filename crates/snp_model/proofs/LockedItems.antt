@@ -62,16 +62,16 @@ first_lock Holds part lock none before holds = record {
 -- RMPUPDATE
 
 -- the size of a frame after the commit
-size_after : Update → RmpEntry → PageSize → PageSize
+abbrev pub size_after : Update → RmpEntry → PageSize → PageSize
 size_after update first size = cond (makes_immutable update first) size (cond (not update.assigned) Small update.size)
 
 updated_size : (update : Update) (first : RmpEntry) (place : ℕ) (facts : RmpEntry) → (updated_facts update first place facts).size ≡ size_after update first facts.size
-unfolding updated_facts free_entry assigned_facts size_after
+unfolding updated_facts free_entry assigned_facts
 updated_size update first place facts =
     elim (makes_immutable update first) as (λ (b : Bool). (cond b (record facts { immutable = true; kind = immutable_kind update.asid facts.kind }) (cond (not update.assigned) free_entry (assigned_facts update place))).size ≡ cond b facts.size (cond (not update.assigned) Small update.size))
     [ true ↦ refl | false ↦ elim (not update.assigned) as (λ (b : Bool). (cond b free_entry (assigned_facts update place)).size ≡ cond b Small update.size) [ true ↦ refl | false ↦ refl ] ]
 
-size_inside : (update : Update) (lock : PageLock) (pages : Pages) (f : ℕ) → covers f lock ≡ true
+pub size_inside : (update : Update) (lock : PageLock) (pages : Pages) (f : ℕ) → covers f lock ≡ true
     → (pages_updated update lock pages f).facts.size ≡ size_after update (pages lock.base).facts (pages f).facts.size
 unfolding pages_updated
 size_inside update lock pages f inside =
@@ -82,20 +82,18 @@ unfolding pages_updated
 size_beside update lock pages f beside = rw beside refl
 
 -- of 4 KB: it stays or becomes of 4 KB
-small_after : (update : Update) (first : RmpEntry) (size : PageSize) → update.size ≡ Small → size ≡ Small → size_after update first size ≡ Small
-unfolding size_after
+pub small_after : (update : Update) (first : RmpEntry) (size : PageSize) → update.size ≡ Small → size ≡ Small → size_after update first size ≡ Small
 small_after update first size asked is =
     cond_both (makes_immutable update first) _ _ (λ (s : PageSize). s ≡ Small) (λ _. is) (λ _. cond_both (not update.assigned) _ _ (λ (s : PageSize). s ≡ Small) (λ _. refl) (λ _. asked))
 
 -- of 2 MB: what one frame becomes of 2 MB by, another does
 large_after : (update : Update) (first : RmpEntry) (size other : PageSize) → (size ≡ Large → other ≡ Large) → size_after update first size ≡ Large → size_after update first other ≡ Large
-unfolding size_after
 large_after update first size other same =
     elim (makes_immutable update first) as (λ (b : Bool). cond b size (cond (not update.assigned) Small update.size) ≡ Large → cond b other (cond (not update.assigned) Small update.size) ≡ Large)
     [ true ↦ same | false ↦ λ e. e ]
 
 -- whether a frame is in a range
-by_range : (b : Bool) (P : Type 0) → (b ≡ true → P) → (b ≡ false → P) → P
+pub by_range : (b : Bool) (P : Type 0) → (b ≡ true → P) → (b ≡ false → P) → P
 by_range true P inside beside = inside refl
 by_range false P inside beside = beside refl
 
