@@ -1,2 +1,3 @@
 pub mod LaunchLaws
+pub mod LockLaws
 pub mod PassedLaws

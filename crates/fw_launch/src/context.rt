@@ -2,7 +2,7 @@ ghost use Rattle.std.specs.Prelude.{◌≡◌, ◌≢◌, ◌==◌, ◌&&◌, no
 ghost use Rattle.snp_model.specs.Firmware.{any_equal, has_equal_frames};
 ghost use Rattle.snp_model.specs.FirmwareLocks.{asid_refusal, context_extra, context_refusal, counter_refusal, firmware_answer, is_absent, is_init, is_launching, is_of_another, is_running, root_in_refusal, root_out_refusal, takes_context, type_refusal};
 ghost use Rattle.snp_model.specs.HeldContexts.{held_by};
-ghost use Rattle.fw_launch.specs.Commits.{refusal_of};
+ghost use Rattle.fw_launch.specs.Commits.{HasPassed, refusal_of};
 
 use crate::status::{
     AEAD_OFLOW, ASID_OWNED, INVALID_GUEST_STATE, INVALID_MDATA_ENTRY, INVALID_PARAM,
@@ -24,6 +24,7 @@ pub fn context_lock(
     requires not_held { context.old.holder ≢ Some actor }
     ensures answer { result ≡ firmware_answer (context_refusal guests.now command.now context.old.context context.old.holder) }
     ensures another { (holder : ℕ) → result ≡ Err (FwRefusal.InUse holder) → holder ≢ actor }
+    ensures passed { IsOk result → HasPassed command.now context.old.context }
     ensures locked { IsOk result → context.new ≡ held_by actor context.old }
     ensures refused { IsErr result → context.new ≡ context.old }
 {

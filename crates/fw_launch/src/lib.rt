@@ -9,6 +9,8 @@ mod commit;
 mod context;
 mod page;
 mod status;
+#[cfg(test)]
+mod tests;
 
 pub use commit::{context_commit, page_commit};
 pub use context::context_lock;

@@ -1,4 +1,5 @@
-ghost use Rattle.std.specs.Prelude.{◌≡◌, ◌≢◌, ℕ, ◌<◌, Some, IsOk, IsErr};
+ghost use Rattle.std.specs.Prelude.{◌≡◌, ◌≢◌, ℕ, ◌<◌, Some, false, IsOk, IsErr};
+ghost use Rattle.snp_model.specs.declared.entry.PageSize.TheVariants.{Small};
 ghost use Rattle.snp_model.specs.Entries.{facts_at, holder_at, with_lock};
 ghost use Rattle.snp_model.specs.FirmwareLocks.{firmware_answer, page_refusal, takes_large};
 ghost use Rattle.snp_model.specs.Locks.{page_lock};
@@ -27,7 +28,9 @@ pub fn page_lock(
     requires not_held { holder_at rmp.old slot ≢ Some actor }
     ensures answer { result ≡ firmware_answer (page_refusal command.now part (facts_at rmp.old slot) (holder_at rmp.old slot) asid) }
     ensures another { (holder : ℕ) → result ≡ Err (FwRefusal.InUse holder) → holder ≢ actor }
+    ensures small { IsOk result → takes_large command.now ≡ false → (facts_at rmp.old slot).size ≡ Small }
     ensures facts { rmp.new.facts ≡ rmp.old.facts }
+    ensures held { IsOk result → holder_at rmp.new slot ≡ Some actor }
     ensures locked { IsOk result → holder_at rmp.new ≡ with_lock (page_lock (facts_at rmp.old slot).size slot) actor (holder_at rmp.old) }
     ensures refused { IsErr result → rmp.new ≡ rmp.old }
 {
@@ -52,7 +55,8 @@ pub fn page_lock(
 
 // Whether a page is of 2 MB.
 fn is_large(size: PageSize) -> bool
-    ensures { result ≡ is_large size }
+    ensures large { result ≡ is_large size }
+    ensures small { result ≡ false → size ≡ Small }
 {
     matches!(size, PageSize::Large)
 }
