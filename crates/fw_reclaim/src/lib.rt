@@ -2,5 +2,7 @@
 #![tactic(auto)]
 
 mod reclaim;
+#[cfg(test)]
+mod tests;
 
 pub use reclaim::{md_commit, reclaim_commit};
