@@ -99,13 +99,7 @@ fn is_compare(word: u64, wrote: bool, op: Option<Op>) -> bool
     ensures { result ≡ is_compare word wrote op }
 {
     match op {
-        Some(Op::Compare { expected, .. }) => {
-            if word == expected {
-                wrote
-            } else {
-                !wrote
-            }
-        }
+        Some(Op::Compare { expected, .. }) => { if word == expected { wrote } else { !wrote } }
         Some(Op::Load | Op::Store(_) | Op::Swap(_) | Op::Xor(_)) | None => false,
     }
 }

@@ -8,6 +8,8 @@ mod memory;
 mod opening;
 mod page;
 mod pages;
+#[cfg(test)]
+mod tests;
 
 pub use fault::ApplyFault;
 pub use memory::GuestMemory;

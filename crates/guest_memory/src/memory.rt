@@ -51,11 +51,7 @@ impl GuestMemory {
         ensures { IfOk result (λ memory. memory ≡ opening_memory scenario.now guest) }
     {
         let mut memory = GuestMemory::empty(alloc);
-        memory.open_all(
-            guest,
-            scenario.pages.as_slice(),
-            scenario.words.as_slice(),
-        )?;
+        memory.open_all(guest, scenario.pages.as_slice(), scenario.words.as_slice())?;
         Ok(memory)
     }
 
@@ -72,7 +68,12 @@ impl GuestMemory {
 
     // Holds the pages of each page line that is a valid one of the guest, with the words of their frames.
     #[tactic(auto, unfolding(snp_model::specs::GuestMemory::with_lines, snp_model::specs::GuestMemory::with_line))]
-    fn open_all(&mut self, guest: u8, pages: &[PageSpec], words: &[WordSpec]) -> Result<(), AllocError>
+    fn open_all(
+        &mut self,
+        guest: u8,
+        pages: &[PageSpec],
+        words: &[WordSpec],
+    ) -> Result<(), AllocError>
         requires pages { AllByRecursion IsPlaced pages.now }
         requires words { AllByRecursion (λ word. word.index < 512) words.now }
         ensures { OnOk result (self.new ≡ with_lines guest (words_from (λ _. zero_words) words.now) pages.now self.old) }
@@ -121,7 +122,10 @@ impl GuestMemory {
         }
         match event.deed {
             Deed::Table {
-                gpn, index, value, ..
+                gpn,
+                index,
+                value,
+                ..
             } => match value {
                 Some(found) => self.touch(gpn, index, Some(found), found),
                 None => Ok(()),
@@ -152,7 +156,13 @@ impl GuestMemory {
 
     // A private access: reads or writes its word, where it passed.
     #[tactic(auto, using(crate::proofs::AnswersLaws::untouched), unfolding(snp_model::specs::GuestMemory::use_of))]
-    fn access(&mut self, gpn: u64, index: u16, item: &Item, outcome: &Option<Outcome>) -> Result<(), ApplyFault>
+    fn access(
+        &mut self,
+        gpn: u64,
+        index: u16,
+        item: &Item,
+        outcome: &Option<Outcome>,
+    ) -> Result<(), ApplyFault>
         requires { index < 512 }
         ensures { (frame : ℕ) → may_belong outcome.now (deeds.Access gpn index frame true) item.now ≡ true → Answers self.old (use_of (deeds.Access gpn index frame true) item.now outcome.now) result self.new }
     {
@@ -215,7 +225,13 @@ impl GuestMemory {
     }
 
     // Finds a word at a place, or none, and leaves one.
-    fn touch(&mut self, gpn: u64, index: u16, found: Option<u64>, left: u64) -> Result<(), ApplyFault>
+    fn touch(
+        &mut self,
+        gpn: u64,
+        index: u16,
+        found: Option<u64>,
+        left: u64,
+    ) -> Result<(), ApplyFault>
         requires { index < 512 }
         ensures { Touches self.old gpn index found left result self.new }
     {
@@ -232,7 +248,13 @@ impl GuestMemory {
 
     // A commit: where it is PVALIDATE's, pages are accepted or rescinded.
     #[tactic(auto, using(crate::proofs::AnswersLaws::untouched), unfolding(snp_model::specs::GuestMemory::use_of))]
-    fn validation(&mut self, gpn: u64, size: PageSize, item: &Item, outcome: &Option<Outcome>) -> Result<(), ApplyFault>
+    fn validation(
+        &mut self,
+        gpn: u64,
+        size: PageSize,
+        item: &Item,
+        outcome: &Option<Outcome>,
+    ) -> Result<(), ApplyFault>
         requires { gpn < 2 ^ 36 }
         ensures { (frame : ℕ) → Answers self.old (use_of (deeds.Commit frame gpn size) item.now outcome.now) result self.new }
     {
@@ -256,7 +278,14 @@ impl GuestMemory {
 
     // A PVALIDATE that ended with a carry flag, by the page and the size that its commit shows and its operands.
     #[tactic(auto, unfolding(snp_model::specs::GuestMemory::use_of_validation, snp_model::specs::GuestMemory::used))]
-    fn validate(&mut self, gpn: u64, size: PageSize, asked: PageSize, validate: bool, carry: bool) -> Result<(), ApplyFault>
+    fn validate(
+        &mut self,
+        gpn: u64,
+        size: PageSize,
+        asked: PageSize,
+        validate: bool,
+        carry: bool,
+    ) -> Result<(), ApplyFault>
         requires { gpn < 2 ^ 36 }
         ensures { Answers self.old (use_of_validation gpn size asked validate carry) result self.new }
     {

@@ -20,13 +20,13 @@ loop-i-preserved c =
     let last = popped left unknown_places c.loop-i.fresh.items c.pop.new.self.items c.pop.result c.loop-i.fresh.len (search rules) items c.pop.ensures.value c.pop.ensures.rest in
     elim c.match-pop.branch [
       | in-Some w ↦ rw (w.pages-is) (record {
-          fresh = last.rest_are;
-          room = room_set c.loop-i.pages.entries (c.args.gpn + i) _ w.put.new.pages.entries c.args.gpn c.args.count w.put.ensures.0 before.room;
-          filled =
-              memory_set c.loop-i.pages.entries (c.args.gpn + i) _ w.put.new.pages.entries w.put.ensures.0
-              ∙ ap (λ (memory : Memory). insert memory (c.args.gpn + i) w.in-Some.page) before.filled
-              ∙ ap (λ (page : Places). insert (with_pages c.args.gpn i unknown_places _) (c.args.gpn + i) page) (same_page c.pop.result w.in-Some.page unknown_places w.in-Some.is last.last_is)
-              ∙ with_pages_more c.args.gpn i unknown_places _;
-        })
+        fresh = last.rest_are;
+        room = room_set c.loop-i.pages.entries (c.args.gpn + i) _ w.put.new.pages.entries c.args.gpn c.args.count w.put.ensures.0 before.room;
+        filled =
+            memory_set c.loop-i.pages.entries (c.args.gpn + i) _ w.put.new.pages.entries w.put.ensures.0
+            ∙ ap (λ (memory : Memory). insert memory (c.args.gpn + i) w.in-Some.page) before.filled
+            ∙ ap (λ (page : Places). insert (with_pages c.args.gpn i unknown_places _) (c.args.gpn + i) page) (same_page c.pop.result w.in-Some.page unknown_places w.in-Some.is last.last_is)
+            ∙ with_pages_more c.args.gpn i unknown_places _;
+      })
       | in_default w ↦ absurd (some_page c.pop.result unknown_places w.in_default.is last.last_is)
     ]
