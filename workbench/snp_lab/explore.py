@@ -79,7 +79,8 @@ class Found:
 
 def outcomes_of(search: Search, played: Played) -> Dict[Key, str]:
     """The outcome of each item of a run; of an item that was attempted again, all of them."""
-    outcomes: Dict[Key, str] = {(actor.number, k): PASSED_OVER for actor in search.scenario.actors.values() for k in range(len(actor.items))}
+    outcomes: Dict[Key, str] = {(actor.number, k): PASSED_OVER for actor in search.scenario.actors.values()
+                                for k in range(len(actor.items))}
     for event in played.events:
         key = event.actor, event.item
         if event.outcome:

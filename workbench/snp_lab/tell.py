@@ -47,6 +47,7 @@ def bits_words(word: int, names: Tuple[Tuple[int, str], ...]) -> str:
     return ', '.join(name if word >> place & 1 else 'not ' + name for place, name in names)
 
 
+APART = 'report and scenario don\'t belong together'
 # How an access ends that is let through.
 ANSWERS = {'load': 'load', 'store': 'store', 'swap': 'swap', 'xor': 'swap', 'cas': 'cas'}
 NESTED_NAMES = ((0, 'present'), (1, 'writable'), (2, 'user'))
@@ -65,7 +66,7 @@ class Teller:
         actor, item = self.watch.actor_of(event), self.watch.item_of(event)
         told = Told(event, item.text if item else '?', actor.title if actor else 'not in this scenario')
         if actor is None or item is None:
-            told.misfit = 'the scenario has no item %d of actor %d: report and scenario don\'t belong together' % (event.item, event.actor)
+            told.misfit = 'the scenario has no item %d of actor %d: %s' % (event.item, event.actor, APART)
             return told
         attempt = self.watch.open_attempt(event)
         DEED_WORDS[event.kind](self, told, attempt, actor, item)
@@ -106,7 +107,8 @@ class Teller:
         below = self.frame_below(word, attempt)
         facts = self.watch.facts_of(event.frame)
         if not word & 1:
-            zero = ': %s, so that the walker reads 0 there' % self.watch.entry_words(event.frame) if facts is not None and facts.assigned else ''
+            is_hidden = facts is not None and facts.assigned
+            zero = ': %s, so that the walker reads 0 there' % self.watch.entry_words(event.frame) if is_hidden else ''
             return codes.NESTED_NOT_PRESENT, 'the word %s has bit 0 clear%s' % (event.deed[2], zero)
         if below >= self.scenario.frames:
             return codes.NESTED_NOT_PRESENT, 'frame %d, which the word %s names, is outside memory, which has %d frames' % (
@@ -146,8 +148,7 @@ class Teller:
         expected = self.expected(row, event, item)
         passed = event.outcome[0] not in ('npf', 'pf', 'vc', 'opaque')
         if (expected is None) != passed or expected is not None and expected != event.outcome:
-            told.misfit = 'by the scenario this should be %s: report and scenario don\'t belong together' % (
-                '`%s`' % ' '.join(expected) if expected else 'let through')
+            told.misfit = 'by the scenario this should be %s: %s' % ('`%s`' % ' '.join(expected) if expected else 'let through', APART)
             return None
         if row is None:
             return self.origin(told, event, item)
@@ -192,7 +193,8 @@ class Teller:
                 entry, actor.vmpl, facts.permissions[actor.vmpl], item.word,
                 'bit 0' if event.kind == 'gpt' or item.word == 'load' else 'bit 1' if item.word == 'store' else 'bits 0 and 1')
         if event.kind in ('host', 'data') and row in codes.HOST + codes.SHARED:
-            return '%s, and %s' % (entry, 'the access writes' if item.writes else 'the access loads: what a machine would show is no word of the guest')
+            loads = 'the access loads: what a machine would show is no word of the guest'
+            return '%s, and %s' % (entry, 'the access writes' if item.writes else loads)
         return entry
 
     def origin(self, told: Told, event: Event, item: Item) -> Optional[Decision]:
@@ -200,7 +202,7 @@ class Teller:
         if event.kind == 'gpt':
             return None
         if event.outcome[0] != ANSWERS.get(item.word):
-            told.misfit = '`%s` doesn\'t end so: report and scenario don\'t belong together' % item.word
+            told.misfit = '`%s` doesn\'t end so: %s' % (item.word, APART)
         if event.outcome[0] not in ('load', 'swap', 'cas'):
             return None
         key = (event.frame, event.place[1])
@@ -348,7 +350,7 @@ def tell_nested(teller: Teller, told: Told, attempt: Attempt, actor: Actor, item
     told.words.append('the word %s names frame %d%s: %s' % (told.event.deed[2], teller.frame_below(word, attempt), size,
                                                            bits_words(word, NESTED_NAMES)))
     if attempt.gpn is not None and nested_index(attempt.gpn, level) != index:
-        told.misfit = 'by the scenario this should be word %d: report and scenario don\'t belong together' % nested_index(attempt.gpn, level)
+        told.misfit = 'by the scenario this should be word %d: %s' % (nested_index(attempt.gpn, level), APART)
 
 
 def tell_table(teller: Teller, told: Told, attempt: Attempt, actor: Actor, item: Item) -> None:
@@ -367,7 +369,8 @@ def tell_table(teller: Teller, told: Told, attempt: Attempt, actor: Actor, item:
 def tell_data(teller: Teller, told: Told, attempt: Attempt, actor: Actor, item: Item) -> None:
     gpn, index = told.event.place
     told.words.append('%s access to word %d of the guest\'s page %s, in frame %d; %s' % (
-        'private' if told.event.deed[3] == 'p' else 'shared', index, page_of(gpn), told.event.frame, teller.watch.entry_words(told.event.frame)))
+        'private' if told.event.deed[3] == 'p' else 'shared', index, page_of(gpn), told.event.frame,
+        teller.watch.entry_words(told.event.frame)))
 
 
 def tell_host(teller: Teller, told: Told, attempt: Attempt, actor: Actor, item: Item) -> None:
@@ -380,7 +383,8 @@ def tell_lock(teller: Teller, told: Told, attempt: Attempt, actor: Actor, item: 
         told.words.append('%s the context of guest %s' % ('asks for' if told.event.outcome else 'locks', told.event.deed[1]))
         return
     frame = number_of(told.event.deed[1]) or 0
-    told.words.append('%s the page of frame %d; %s' % ('asks for' if told.event.outcome else 'locks', frame, teller.watch.entry_words(frame)))
+    verb = 'asks for' if told.event.outcome else 'locks'
+    told.words.append('%s the page of frame %d; %s' % (verb, frame, teller.watch.entry_words(frame)))
 
 
 def tell_commit(teller: Teller, told: Told, attempt: Attempt, actor: Actor, item: Item) -> None:
