@@ -380,7 +380,7 @@ class Explorer:
                 if outcomes[key] != outcome:
                     raise Complaint('the check failed: `%s` gives item %d of actor %d %s and not %s' % (
                         self.schedule_text(rank(schedule)), key[1], key[0], outcomes[key], outcome), self.search.scenario.name)
-        return 'checked: each of these %d schedules was replayed and gives what is said of it' % len(said)
+        return 'checked: each schedule above, %d in all, was replayed and gives what is said of it' % len(said)
 
     def hit_lines(self) -> List[str]:
         """The schedule that was looked for, with the lines of its report that are like the patterns."""

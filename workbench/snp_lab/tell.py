@@ -8,7 +8,7 @@ from . import codes
 from .codes import Row
 from .machine import Attempt, Facts, Watch, entry_frame
 from .report import Event
-from .scenario import Actor, Item, Scenario
+from .scenario import ACCESSES, Actor, Item, Scenario
 from .texts import number_of, page_of
 
 Decision = Tuple[Optional[Row], str]
@@ -54,6 +54,17 @@ NESTED_NAMES = ((0, 'present'), (1, 'writable'), (2, 'user'))
 GUEST_NAMES = ((0, 'present'), (1, 'writable'))
 
 
+def deeds_of(item: Item, actor: Actor) -> Tuple[str, ...]:
+    """The kinds of events that an item may have."""
+    if item.word == 'skip':
+        return ('skip',)
+    if actor.role == 'host':
+        return ('host',) if item.word in ACCESSES else ('lock', 'commit')
+    if actor.role == 'fw':
+        return 'lock', 'lockg', 'compute', 'commit', 'commitg'
+    return ('begin', 'npt', 'gpt', 'data') if item.word in ACCESSES else ('begin', 'npt', 'gpt', 'lock', 'commit')
+
+
 class Teller:
     """Tells the events of one report one after the other."""
 
@@ -67,6 +78,9 @@ class Teller:
         told = Told(event, item.text if item else '?', actor.title if actor else 'not in this scenario')
         if actor is None or item is None:
             told.misfit = 'the scenario has no item %d of actor %d: %s' % (event.item, event.actor, APART)
+            return told
+        if event.kind not in deeds_of(item, actor):
+            told.misfit = '`%s` has no such event: %s' % (item.word, APART)
             return told
         attempt = self.watch.open_attempt(event)
         DEED_WORDS[event.kind](self, told, attempt, actor, item)
@@ -82,13 +96,13 @@ class Teller:
         told.receiver = receiver(event)
         decision: Optional[Decision] = None
         if event.kind == 'npt':
-            decision = self.nested_decision(event, attempt, item)
+            decision = self.nested_decision(told, event, attempt, item)
         elif event.kind == 'gpt' and event.deed[3] != '-':
-            decision = self.guest_decision(event)
+            decision = self.guest_decision(told, event, item)
         elif event.kind in ('data', 'gpt', 'host'):
             decision = self.check_decision(told, event, attempt, actor, item)
         elif event.kind == 'begin':
-            decision = self.begin_decision(event, actor, item)
+            decision = self.begin_decision(told, event, actor, item)
         elif event.kind == 'lock':
             decision = self.lock_decision(event, attempt, actor, item)
         elif event.kind == 'lockg':
@@ -101,8 +115,21 @@ class Teller:
 
     # Walks
 
-    def nested_decision(self, event: Event, attempt: Attempt, item: Item) -> Optional[Decision]:
+    def nested_decision(self, told: Told, event: Event, attempt: Attempt, item: Item) -> Optional[Decision]:
         """The row of a nested walk that ended an attempt at a read."""
+        decision = self.nested_row(event, attempt, item)
+        writes = item.writes or not attempt.is_final
+        code = 4 | (2 if writes else 0) | (0x100000000 if attempt.is_final else 0x200000000)
+        code |= 0x400000000 if attempt.is_private or not attempt.is_final else 0
+        code |= 0 if decision is None or decision[0] is codes.NESTED_NOT_PRESENT else 1
+        expected = 'let through' if decision is None else '`npf 0x%x`' % code
+        if expected.strip('`') != event.answer:
+            told.misfit = 'by the scenario this should be %s: %s' % (expected, APART)
+            return None
+        return decision
+
+    def nested_row(self, event: Event, attempt: Attempt, item: Item) -> Optional[Decision]:
+        """The first row of a nested walk that applies to the word that was read, and why."""
         word = int(event.deed[2], 0)
         below = self.frame_below(word, attempt)
         facts = self.watch.facts_of(event.frame)
@@ -115,6 +142,8 @@ class Teller:
                 below, event.deed[2], self.scenario.frames)
         if not word & 4:
             return codes.NESTED_USER, 'the word %s has bit 2 clear' % event.deed[2]
+        if word & 2 or attempt.is_final and not item.writes:
+            return None
         why = 'the walk is of a guest table\'s address' if not attempt.is_final else '`%s` writes' % item.word
         return codes.NESTED_WRITE, 'the word %s has bit 1 clear, and %s' % (event.deed[2], why)
 
@@ -124,13 +153,19 @@ class Teller:
             return below - below % 512 + attempt.gpn % 512
         return below
 
-    def guest_decision(self, event: Event) -> Optional[Decision]:
+    def guest_decision(self, told: Told, event: Event, item: Item) -> Optional[Decision]:
+        """The row of a guest walk that ended an attempt at a table's word."""
         word = int(event.deed[3], 0)
-        if event.outcome[0] != 'pf':
-            return None
+        write = 2 if item.writes else 0
         if not word & 1:
-            return codes.GUEST_NOT_PRESENT, 'the guest\'s own entry %s has bit 0 clear' % event.deed[3]
-        return codes.GUEST_WRITE, 'the guest\'s own entry %s has bit 1 clear, and the access writes' % event.deed[3]
+            expected, decision = 'pf 0x%x' % write, (codes.GUEST_NOT_PRESENT, 'the guest\'s own entry %s has bit 0 clear' % event.deed[3])
+        else:
+            expected = 'pf 0x3' if write and not word & 2 else ''
+            decision = codes.GUEST_WRITE, 'the guest\'s own entry %s has bit 1 clear, and the access writes' % event.deed[3]
+        if expected != event.answer:
+            told.misfit = 'by the scenario this should be %s: %s' % ('`%s`' % expected if expected else 'let through', APART)
+            return None
+        return decision
 
     # Checks of the RMP
 
@@ -215,7 +250,7 @@ class Teller:
 
     # Begins, locks and contexts
 
-    def begin_decision(self, event: Event, actor: Actor, item: Item) -> Optional[Decision]:
+    def begin_decision(self, told: Told, event: Event, actor: Actor, item: Item) -> Optional[Decision]:
         if event.outcome[0] == 'offline':
             return codes.OFFLINE, 'guest %d is %s' % (actor.guest, self.watch.states.get(actor.guest, '?'))
         address = item.operands[0]
@@ -223,10 +258,15 @@ class Teller:
         top = address >> low
         if event.outcome[0] == 'gp' and top not in (0, (1 << 64 - low) - 1):
             return codes.CANONICAL, 'bits 63:%d of 0x%x aren\'t all equal' % (low, address)
-        if event.outcome[0] == 'gp':
+        if event.outcome[0] == 'gp' and item.word == 'pvalidate' and actor.vmpl:
             return codes.BEGIN['vmpl'], 'PVALIDATE is for VMPL0 alone, and this is VMPL%d' % actor.vmpl
+        if event.outcome[0] != 'rc' or item.word in ACCESSES:
+            told.misfit = 'by the scenario this should go on: %s' % APART
+            return None
         if address % (4096 * (512 if item.operands[1] == 2 else 1)):
             return codes.BEGIN['align'], '0x%x isn\'t a multiple of %s' % (address, '2 MB' if item.operands[1] == 2 else '4 KB')
+        if item.word != 'rmpadjust':
+            return None
         return codes.BEGIN['target' if event.outcome[1] == '2' else 'mask'], 'target VMPL %d, mask %d, by VMPL%d' % (
             item.operands[2], item.operands[3], actor.vmpl)
 
@@ -278,7 +318,7 @@ class Teller:
                 6: (codes.VALIDATE[4], entry)}.get(status)
 
     def adjust_permission(self, facts: Optional[Facts], actor: Actor, item: Item) -> Optional[Decision]:
-        if facts is None:
+        if facts is None or item.word != 'rmpadjust':
             return None
         own, mask = facts.permissions[actor.vmpl], item.operands[3]
         if mask & ~own:
@@ -349,7 +389,9 @@ def tell_nested(teller: Teller, told: Told, attempt: Attempt, actor: Actor, item
     size = '' if not leaf else ' (a leaf of %s)' % ('4 KB' if level == 1 else '2 MB')
     told.words.append('the word %s names frame %d%s: %s' % (told.event.deed[2], teller.frame_below(word, attempt), size,
                                                            bits_words(word, NESTED_NAMES)))
-    if attempt.gpn is not None and nested_index(attempt.gpn, level) != index:
+    if level < 1:
+        told.misfit = 'a walk has no more reads than levels: %s' % APART
+    elif attempt.gpn is not None and nested_index(attempt.gpn, level) != index:
         told.misfit = 'by the scenario this should be word %d: %s' % (nested_index(attempt.gpn, level), APART)
 
 
