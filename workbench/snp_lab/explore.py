@@ -227,7 +227,7 @@ class Explorer:
         pool: Optional[ProcessPoolExecutor] = None
         try:
             self.first_run()
-            if self.options.jobs > 1 and not self.is_over(start) and (self.nodes or self.options.most <= 0):
+            if self.options.jobs > 1 and (self.nodes or self.options.most <= 0) and not self.is_over(start):
                 pool = ProcessPoolExecutor(self.options.jobs, initializer=start_worker, initargs=(self.search, self.goal))
             self.exhaust(pool, progress, start)
             if (self.nodes or self.options.most <= 0) and not self.is_over(start):
