@@ -234,7 +234,9 @@ def nested_causes(code: int) -> List[str]:
 
 def decided(causes: List[str]) -> List[str]:
     """The lines that name what decided, or what may have."""
-    return ['  decided by: %s' % (causes[0] if len(causes) == 1 else 'one of these')] + (['    ' + c for c in causes] if len(causes) > 1 else [])
+    if len(causes) == 1:
+        return ['  decided by: ' + causes[0]]
+    return ['  decided by: one of these'] + ['    ' + cause for cause in causes]
 
 
 def nested_lines(code: int) -> List[str]:

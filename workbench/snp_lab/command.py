@@ -214,8 +214,10 @@ def add_explore(commands: 'argparse._SubParsersAction[Parser]', name: str) -> No
     made.add_argument('--random', type=int, default=1000, metavar='N', help='random runs beyond that (1000)')
     made.add_argument('--seed', type=int, default=1, metavar='N', help='what the random runs are drawn from (1)')
     made.add_argument('--seconds', type=float, metavar='S', help='ends the search after so long')
-    made.add_argument('--until', action='append', default=[], metavar='PATTERN', help='ends at a run with such a line; all, where several are given')
-    made.add_argument('--after', type=int, default=0, metavar='K', help='the first K events of the scenario\'s own order come first in each run')
+    made.add_argument('--until', action='append', default=[], metavar='PATTERN',
+                      help='ends at a run with such a line; all, where several are given')
+    made.add_argument('--after', type=int, default=0, metavar='K',
+                      help='the first K events of the scenario\'s own order come first in each run')
     made.add_argument('--joint', action='store_true', help='the outcomes of whole runs too')
     made.add_argument('--full', action='store_true', help='each interleaving, also those that differ by commuting events alone')
     made.add_argument('--jobs', type=int, metavar='N', help='how many processes run at once (one for each processor)')

@@ -79,7 +79,8 @@ class Found:
 
 def outcomes_of(search: Search, played: Played) -> Dict[Key, str]:
     """The outcome of each item of a run; of an item that was attempted again, all of them."""
-    outcomes: Dict[Key, str] = {(actor.number, k): PASSED_OVER for actor in search.scenario.actors.values() for k in range(len(actor.items))}
+    outcomes: Dict[Key, str] = {(actor.number, k): PASSED_OVER for actor in search.scenario.actors.values()
+                                for k in range(len(actor.items))}
     for event in played.events:
         key = event.actor, event.item
         if event.outcome:
@@ -226,7 +227,7 @@ class Explorer:
         pool: Optional[ProcessPoolExecutor] = None
         try:
             self.first_run()
-            if self.options.jobs > 1 and not self.is_over(start) and (self.nodes or self.options.most <= 0):
+            if self.options.jobs > 1 and (self.nodes or self.options.most <= 0) and not self.is_over(start):
                 pool = ProcessPoolExecutor(self.options.jobs, initializer=start_worker, initargs=(self.search, self.goal))
             self.exhaust(pool, progress, start)
             if (self.nodes or self.options.most <= 0) and not self.is_over(start):
@@ -379,7 +380,7 @@ class Explorer:
                 if outcomes[key] != outcome:
                     raise Complaint('the check failed: `%s` gives item %d of actor %d %s and not %s' % (
                         self.schedule_text(rank(schedule)), key[1], key[0], outcomes[key], outcome), self.search.scenario.name)
-        return 'checked: each of these %d schedules was replayed and gives what is said of it' % len(said)
+        return 'checked: each schedule above, %d in all, was replayed and gives what is said of it' % len(said)
 
     def hit_lines(self) -> List[str]:
         """The schedule that was looked for, with the lines of its report that are like the patterns."""

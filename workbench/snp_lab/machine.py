@@ -123,7 +123,7 @@ class Watch:
             return 'frame %d is the firmware\'s (%s)' % (frame, facts.state)
         more = ([] if not facts.is_large else ['in a page of 2 MB']) + ([] if facts.validated else ['not validated']) \
             + (['immutable'] if facts.immutable else [])
-        return 'frame %d is page %s of %s%s' % (frame, page_of(facts.gpn), self.guest_name(facts.asid), ', ' + ', '.join(more) if more else '')
+        return ', '.join(['frame %d is page %s of %s' % (frame, page_of(facts.gpn), self.guest_name(facts.asid))] + more)
 
     def open_attempt(self, event: Event) -> Attempt:
         """The attempt of an event, with the state of its walks before the event."""

@@ -6,7 +6,7 @@ from typing import Callable, Dict, List, Optional, Tuple
 
 from . import report
 from .codes import refusal_words
-from .program import Program
+from .program import Answer, Program
 from .report import Event
 from .scenario import ORDER_LIMIT, order_lines, runs_of
 from .texts import Complaint, Line
@@ -15,14 +15,21 @@ PLAIN = re.compile(r'([0-9]+)(?:\*([0-9]+))?\Z')
 ITEMS = re.compile(r'([0-9]+)(?:\*([0-9]+))?!\Z')
 ALL = re.compile(r'([0-9]+)!!\Z')
 UP_TO = re.compile(r'([0-9]+)@([a-z]+)\Z')
-FORMS = '`1` and `1*6` are events, `1!` and `1*2!` items, `1@data` goes up to the next access, and `1!!` to the script\'s end'
+FORMS = ('`1` and `1*6` are events, `1!` and `1*2!` items, `1@data` goes up to the next access, and `1!!` to the script\'s '
+         'end')
+
+
+def refusal(answer: Answer) -> str:
+    """What is said where the program refuses a text that was made here."""
+    text = answer.output.strip()
+    return 'the program refuses what this becomes, with `%s`: %s' % (text, refusal_words(text))
 
 
 def events_of(program: Program, head: List[str], schedule: List[int], name: str) -> List[Event]:
     """The events of a schedule that fits."""
     answer = program.replay('\n'.join(head + order_lines(runs_of(schedule)) + ['end']) + '\n')
     if answer.status:
-        raise Complaint('the program refuses what this becomes, with `%s`: %s' % (answer.output.strip(), refusal_words(answer.output.strip())), name)
+        raise Complaint(refusal(answer), name)
     return report.parse(answer.output, 'the report').events
 
 
@@ -77,9 +84,10 @@ class Planner:
         answer = self.program.replay('\n'.join(self.head + order_lines(runs_of(self.schedule) + [(actor, most)]) + ['end']) + '\n')
         refused = answer.refused_entry
         if refused is None:
-            line.fail('the program refuses what this becomes, with `%s`: %s' % (answer.output.strip(), refusal_words(answer.output.strip())))
+            line.fail(refusal(answer))
         if refused[0] < len(self.schedule):
-            line.fail('actor %d, which the order names before this word, is missing or finished there (entry %d)' % (refused[1], refused[0]))
+            line.fail('actor %d, which the order names before this word, is missing or finished there (entry %d)'
+                      % (refused[1], refused[0]))
         if refused[0] == len(self.schedule):
             line.fail('actor %d is missing or finished here' % actor)
         whole = self.schedule + [actor] * (refused[0] - len(self.schedule))

@@ -8,7 +8,7 @@ from . import codes
 from .codes import Row
 from .machine import Attempt, Facts, Watch, entry_frame
 from .report import Event
-from .scenario import Actor, Item, Scenario
+from .scenario import ACCESSES, Actor, Item, Scenario
 from .texts import number_of, page_of
 
 Decision = Tuple[Optional[Row], str]
@@ -47,10 +47,22 @@ def bits_words(word: int, names: Tuple[Tuple[int, str], ...]) -> str:
     return ', '.join(name if word >> place & 1 else 'not ' + name for place, name in names)
 
 
+APART = 'report and scenario don\'t belong together'
 # How an access ends that is let through.
 ANSWERS = {'load': 'load', 'store': 'store', 'swap': 'swap', 'xor': 'swap', 'cas': 'cas'}
 NESTED_NAMES = ((0, 'present'), (1, 'writable'), (2, 'user'))
 GUEST_NAMES = ((0, 'present'), (1, 'writable'))
+
+
+def deeds_of(item: Item, actor: Actor) -> Tuple[str, ...]:
+    """The kinds of events that an item may have."""
+    if item.word == 'skip':
+        return ('skip',)
+    if actor.role == 'host':
+        return ('host',) if item.word in ACCESSES else ('lock', 'commit')
+    if actor.role == 'fw':
+        return 'lock', 'lockg', 'compute', 'commit', 'commitg'
+    return ('begin', 'npt', 'gpt', 'data') if item.word in ACCESSES else ('begin', 'npt', 'gpt', 'lock', 'commit')
 
 
 class Teller:
@@ -65,7 +77,10 @@ class Teller:
         actor, item = self.watch.actor_of(event), self.watch.item_of(event)
         told = Told(event, item.text if item else '?', actor.title if actor else 'not in this scenario')
         if actor is None or item is None:
-            told.misfit = 'the scenario has no item %d of actor %d: report and scenario don\'t belong together' % (event.item, event.actor)
+            told.misfit = 'the scenario has no item %d of actor %d: %s' % (event.item, event.actor, APART)
+            return told
+        if event.kind not in deeds_of(item, actor):
+            told.misfit = '`%s` has no such event: %s' % (item.word, APART)
             return told
         attempt = self.watch.open_attempt(event)
         DEED_WORDS[event.kind](self, told, attempt, actor, item)
@@ -81,13 +96,13 @@ class Teller:
         told.receiver = receiver(event)
         decision: Optional[Decision] = None
         if event.kind == 'npt':
-            decision = self.nested_decision(event, attempt, item)
+            decision = self.nested_decision(told, event, attempt, item)
         elif event.kind == 'gpt' and event.deed[3] != '-':
-            decision = self.guest_decision(event)
+            decision = self.guest_decision(told, event, item)
         elif event.kind in ('data', 'gpt', 'host'):
             decision = self.check_decision(told, event, attempt, actor, item)
         elif event.kind == 'begin':
-            decision = self.begin_decision(event, actor, item)
+            decision = self.begin_decision(told, event, actor, item)
         elif event.kind == 'lock':
             decision = self.lock_decision(event, attempt, actor, item)
         elif event.kind == 'lockg':
@@ -100,19 +115,35 @@ class Teller:
 
     # Walks
 
-    def nested_decision(self, event: Event, attempt: Attempt, item: Item) -> Optional[Decision]:
+    def nested_decision(self, told: Told, event: Event, attempt: Attempt, item: Item) -> Optional[Decision]:
         """The row of a nested walk that ended an attempt at a read."""
+        decision = self.nested_row(event, attempt, item)
+        writes = item.writes or not attempt.is_final
+        code = 4 | (2 if writes else 0) | (0x100000000 if attempt.is_final else 0x200000000)
+        code |= 0x400000000 if attempt.is_private or not attempt.is_final else 0
+        code |= 0 if decision is None or decision[0] is codes.NESTED_NOT_PRESENT else 1
+        expected = 'let through' if decision is None else '`npf 0x%x`' % code
+        if expected.strip('`') != event.answer:
+            told.misfit = 'by the scenario this should be %s: %s' % (expected, APART)
+            return None
+        return decision
+
+    def nested_row(self, event: Event, attempt: Attempt, item: Item) -> Optional[Decision]:
+        """The first row of a nested walk that applies to the word that was read, and why."""
         word = int(event.deed[2], 0)
         below = self.frame_below(word, attempt)
         facts = self.watch.facts_of(event.frame)
         if not word & 1:
-            zero = ': %s, so that the walker reads 0 there' % self.watch.entry_words(event.frame) if facts is not None and facts.assigned else ''
+            is_hidden = facts is not None and facts.assigned
+            zero = ': %s, so that the walker reads 0 there' % self.watch.entry_words(event.frame) if is_hidden else ''
             return codes.NESTED_NOT_PRESENT, 'the word %s has bit 0 clear%s' % (event.deed[2], zero)
         if below >= self.scenario.frames:
             return codes.NESTED_NOT_PRESENT, 'frame %d, which the word %s names, is outside memory, which has %d frames' % (
                 below, event.deed[2], self.scenario.frames)
         if not word & 4:
             return codes.NESTED_USER, 'the word %s has bit 2 clear' % event.deed[2]
+        if word & 2 or attempt.is_final and not item.writes:
+            return None
         why = 'the walk is of a guest table\'s address' if not attempt.is_final else '`%s` writes' % item.word
         return codes.NESTED_WRITE, 'the word %s has bit 1 clear, and %s' % (event.deed[2], why)
 
@@ -122,13 +153,19 @@ class Teller:
             return below - below % 512 + attempt.gpn % 512
         return below
 
-    def guest_decision(self, event: Event) -> Optional[Decision]:
+    def guest_decision(self, told: Told, event: Event, item: Item) -> Optional[Decision]:
+        """The row of a guest walk that ended an attempt at a table's word."""
         word = int(event.deed[3], 0)
-        if event.outcome[0] != 'pf':
-            return None
+        write = 2 if item.writes else 0
         if not word & 1:
-            return codes.GUEST_NOT_PRESENT, 'the guest\'s own entry %s has bit 0 clear' % event.deed[3]
-        return codes.GUEST_WRITE, 'the guest\'s own entry %s has bit 1 clear, and the access writes' % event.deed[3]
+            expected, decision = 'pf 0x%x' % write, (codes.GUEST_NOT_PRESENT, 'the guest\'s own entry %s has bit 0 clear' % event.deed[3])
+        else:
+            expected = 'pf 0x3' if write and not word & 2 else ''
+            decision = codes.GUEST_WRITE, 'the guest\'s own entry %s has bit 1 clear, and the access writes' % event.deed[3]
+        if expected != event.answer:
+            told.misfit = 'by the scenario this should be %s: %s' % ('`%s`' % expected if expected else 'let through', APART)
+            return None
+        return decision
 
     # Checks of the RMP
 
@@ -146,8 +183,7 @@ class Teller:
         expected = self.expected(row, event, item)
         passed = event.outcome[0] not in ('npf', 'pf', 'vc', 'opaque')
         if (expected is None) != passed or expected is not None and expected != event.outcome:
-            told.misfit = 'by the scenario this should be %s: report and scenario don\'t belong together' % (
-                '`%s`' % ' '.join(expected) if expected else 'let through')
+            told.misfit = 'by the scenario this should be %s: %s' % ('`%s`' % ' '.join(expected) if expected else 'let through', APART)
             return None
         if row is None:
             return self.origin(told, event, item)
@@ -192,7 +228,8 @@ class Teller:
                 entry, actor.vmpl, facts.permissions[actor.vmpl], item.word,
                 'bit 0' if event.kind == 'gpt' or item.word == 'load' else 'bit 1' if item.word == 'store' else 'bits 0 and 1')
         if event.kind in ('host', 'data') and row in codes.HOST + codes.SHARED:
-            return '%s, and %s' % (entry, 'the access writes' if item.writes else 'the access loads: what a machine would show is no word of the guest')
+            loads = 'the access loads: what a machine would show is no word of the guest'
+            return '%s, and %s' % (entry, 'the access writes' if item.writes else loads)
         return entry
 
     def origin(self, told: Told, event: Event, item: Item) -> Optional[Decision]:
@@ -200,7 +237,7 @@ class Teller:
         if event.kind == 'gpt':
             return None
         if event.outcome[0] != ANSWERS.get(item.word):
-            told.misfit = '`%s` doesn\'t end so: report and scenario don\'t belong together' % item.word
+            told.misfit = '`%s` doesn\'t end so: %s' % (item.word, APART)
         if event.outcome[0] not in ('load', 'swap', 'cas'):
             return None
         key = (event.frame, event.place[1])
@@ -213,7 +250,7 @@ class Teller:
 
     # Begins, locks and contexts
 
-    def begin_decision(self, event: Event, actor: Actor, item: Item) -> Optional[Decision]:
+    def begin_decision(self, told: Told, event: Event, actor: Actor, item: Item) -> Optional[Decision]:
         if event.outcome[0] == 'offline':
             return codes.OFFLINE, 'guest %d is %s' % (actor.guest, self.watch.states.get(actor.guest, '?'))
         address = item.operands[0]
@@ -221,10 +258,15 @@ class Teller:
         top = address >> low
         if event.outcome[0] == 'gp' and top not in (0, (1 << 64 - low) - 1):
             return codes.CANONICAL, 'bits 63:%d of 0x%x aren\'t all equal' % (low, address)
-        if event.outcome[0] == 'gp':
+        if event.outcome[0] == 'gp' and item.word == 'pvalidate' and actor.vmpl:
             return codes.BEGIN['vmpl'], 'PVALIDATE is for VMPL0 alone, and this is VMPL%d' % actor.vmpl
+        if event.outcome[0] != 'rc' or item.word in ACCESSES:
+            told.misfit = 'by the scenario this should go on: %s' % APART
+            return None
         if address % (4096 * (512 if item.operands[1] == 2 else 1)):
             return codes.BEGIN['align'], '0x%x isn\'t a multiple of %s' % (address, '2 MB' if item.operands[1] == 2 else '4 KB')
+        if item.word != 'rmpadjust':
+            return None
         return codes.BEGIN['target' if event.outcome[1] == '2' else 'mask'], 'target VMPL %d, mask %d, by VMPL%d' % (
             item.operands[2], item.operands[3], actor.vmpl)
 
@@ -276,7 +318,7 @@ class Teller:
                 6: (codes.VALIDATE[4], entry)}.get(status)
 
     def adjust_permission(self, facts: Optional[Facts], actor: Actor, item: Item) -> Optional[Decision]:
-        if facts is None:
+        if facts is None or item.word != 'rmpadjust':
             return None
         own, mask = facts.permissions[actor.vmpl], item.operands[3]
         if mask & ~own:
@@ -347,8 +389,10 @@ def tell_nested(teller: Teller, told: Told, attempt: Attempt, actor: Actor, item
     size = '' if not leaf else ' (a leaf of %s)' % ('4 KB' if level == 1 else '2 MB')
     told.words.append('the word %s names frame %d%s: %s' % (told.event.deed[2], teller.frame_below(word, attempt), size,
                                                            bits_words(word, NESTED_NAMES)))
-    if attempt.gpn is not None and nested_index(attempt.gpn, level) != index:
-        told.misfit = 'by the scenario this should be word %d: report and scenario don\'t belong together' % nested_index(attempt.gpn, level)
+    if level < 1:
+        told.misfit = 'a walk has no more reads than levels: %s' % APART
+    elif attempt.gpn is not None and nested_index(attempt.gpn, level) != index:
+        told.misfit = 'by the scenario this should be word %d: %s' % (nested_index(attempt.gpn, level), APART)
 
 
 def tell_table(teller: Teller, told: Told, attempt: Attempt, actor: Actor, item: Item) -> None:
@@ -367,7 +411,8 @@ def tell_table(teller: Teller, told: Told, attempt: Attempt, actor: Actor, item:
 def tell_data(teller: Teller, told: Told, attempt: Attempt, actor: Actor, item: Item) -> None:
     gpn, index = told.event.place
     told.words.append('%s access to word %d of the guest\'s page %s, in frame %d; %s' % (
-        'private' if told.event.deed[3] == 'p' else 'shared', index, page_of(gpn), told.event.frame, teller.watch.entry_words(told.event.frame)))
+        'private' if told.event.deed[3] == 'p' else 'shared', index, page_of(gpn), told.event.frame,
+        teller.watch.entry_words(told.event.frame)))
 
 
 def tell_host(teller: Teller, told: Told, attempt: Attempt, actor: Actor, item: Item) -> None:
@@ -380,7 +425,8 @@ def tell_lock(teller: Teller, told: Told, attempt: Attempt, actor: Actor, item: 
         told.words.append('%s the context of guest %s' % ('asks for' if told.event.outcome else 'locks', told.event.deed[1]))
         return
     frame = number_of(told.event.deed[1]) or 0
-    told.words.append('%s the page of frame %d; %s' % ('asks for' if told.event.outcome else 'locks', frame, teller.watch.entry_words(frame)))
+    verb = 'asks for' if told.event.outcome else 'locks'
+    told.words.append('%s the page of frame %d; %s' % (verb, frame, teller.watch.entry_words(frame)))
 
 
 def tell_commit(teller: Teller, told: Told, attempt: Attempt, actor: Actor, item: Item) -> None:

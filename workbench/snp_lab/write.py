@@ -59,7 +59,8 @@ class Draft:
             return self.frames[word]
         found = CALL.match(word)
         if found is None:
-            line.fail('`%s` is neither a number nor a named frame; `frame %s 9` would name one' % (word, word if NAME.match(word) else 'NAME'))
+            line.fail('`%s` is neither a number nor a named frame; `frame %s 9` would name one'
+                      % (word, word if NAME.match(word) else 'NAME'))
         call = CALLS.get(found.group(1))
         if call is None:
             line.fail('`%s` is no call: %s are' % (found.group(1), ', '.join(CALLS)))
