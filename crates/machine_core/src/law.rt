@@ -2,16 +2,20 @@ ghost use Rattle.std.specs.Prelude.{ℕ, ◌*◌, ◌<◌, ◌≤◌, List, leng
 ghost use Rattle.snp_model.specs.declared.scenario.GuestSpec.{GuestSpec};
 ghost use Rattle.snp_model.specs.declared.scenario.Scenario.{Scenario};
 ghost use Rattle.snp_model.specs.Attempts.{attempts_of};
-ghost use Rattle.snp_model.specs.GuestMemory.{memory_after};
+ghost use Rattle.snp_model.specs.GuestMemory.{memory_after, opening_memory};
+ghost use Rattle.snp_model.specs.HeldLocks.{AreExclusive, AreTested};
 ghost use Rattle.snp_model.specs.Holders.{Core};
+ghost use Rattle.snp_model.specs.Invariant.{IsUnique};
 ghost use Rattle.snp_model.specs.Live.{Archive, vault_of};
 ghost use Rattle.snp_model.specs.OpenAttempts.{AreWalking, ReadsMemory};
-ghost use Rattle.snp_model.specs.Opening.{asid_of};
+ghost use Rattle.snp_model.specs.Opening.{asid_of, opening};
+ghost use Rattle.snp_model.specs.Past.{Past};
 ghost use Rattle.snp_model.specs.Reading.{Valid};
 ghost use Rattle.snp_model.specs.Ready.{AreReady};
 ghost use Rattle.snp_model.specs.Room.{AreBounded};
 ghost use Rattle.snp_model.specs.Run.{IsDefined, state_after};
-ghost use Rattle.snp_model.specs.State.{ActorPart, State, View};
+ghost use Rattle.snp_model.specs.Shapes.{AreShaped};
+ghost use Rattle.snp_model.specs.State.{ActorPart, State, View, part_of};
 ghost use Rattle.snp_model.specs.Step.{event_of, step_of};
 ghost use Rattle.snp_model.specs.Touches.{AgreeBeside, SeeAlike, StepsAlike, touches};
 
@@ -44,6 +48,19 @@ pub fn machine_laws()
     // what it touches.
     ensures ready { (scenario : Scenario) (schedule : List ℕ)
         → Valid scenario → IsDefined scenario schedule → AreReady (state_after scenario schedule) }
+
+    // The opening of a valid scenario has the seven parts of the invariant for each declared guest, whatever the past.
+    ensures opening { (scenario : Scenario) (guest : ℕ) (past : Past)
+        → Valid scenario → 0 < guest → guest ≤ length scenario.guests
+        → IsUnique guest (opening scenario) past (opening_memory scenario guest) }
+
+    // In every run from an opening whose pages of 2 MB are whole, whatever items the scripts have, no frame and no context
+    // is locked by two actors, and what the tests of each lock asked still holds.
+    ensures exclusive { (scenario : Scenario) (schedule : List ℕ)
+        → AreShaped (opening scenario) → IsDefined scenario schedule → AreExclusive (state_after scenario schedule) }
+    ensures tested { (scenario : Scenario) (schedule : List ℕ) (actor : ℕ)
+        → AreShaped (opening scenario) → IsDefined scenario schedule
+        → AreTested (state_after scenario schedule) (part_of (state_after scenario schedule) actor) }
 
     // In every run each page of a declared guest has at most one holder, which has a page of the guest's memory with its
     // known words.

@@ -1,5 +1,7 @@
 use Rattle.snp_model.proofs.GuestMemoryLaws.{state_keeps_core}
 use Rattle.snp_model.proofs.LocalityLaws.{step_local}
+use Rattle.snp_model.proofs.LockedRuns.{run_exclusive, run_tested}
+use Rattle.snp_model.proofs.OpeningInvariant.{opening_unique}
 use Rattle.snp_model.proofs.ReadyLaws.{run_ready}
 use Rattle.snp_model.proofs.RoomLaws.{run_bounded}
 use Rattle.snp_model.proofs.SoundLaws.{valid_is_sound}
@@ -16,3 +18,12 @@ returns-clause-ready c = λ scenario schedule valid defined. run_ready scenario 
 
 pub returns-clause-holders : goal.returns-clause-holders
 returns-clause-holders c = λ scenario schedule archive guest valid some most. state_keeps_core scenario schedule archive (valid_is_sound scenario valid) guest some most
+
+pub returns-clause-opening : goal.returns-clause-opening
+returns-clause-opening c = λ scenario guest past valid some most. opening_unique scenario guest past (valid_is_sound scenario valid) some most
+
+pub returns-clause-exclusive : goal.returns-clause-exclusive
+returns-clause-exclusive c = run_exclusive
+
+pub returns-clause-tested : goal.returns-clause-tested
+returns-clause-tested c = run_tested
