@@ -1,11 +1,8 @@
 -- How uses of a guest's memory are answered.
-use Rattle.std.proofs.Common.{◌≡◌, ℕ, Bool, true, false, eqb, Option, Some, None, unwrap_or, Result, Ok, Err, bit_xor, if◌then◌else◌, not, refl, sym, ap, ◌∙◌, subst}
-use Rattle.std.proofs.lemmas.Bool.Decides.{nat_tests}
-use Rattle.snp_model.specs.GuestMemory.{Memory, Use, Untouched, Reads, Writes, Exchanges, Compares, Accepts, Rescinds, Launches, IsHeld, MayRead, IsLegalUse, known, used, with_known}
+use Rattle.std.proofs.Common.{◌≡◌, ℕ, Bool, true, false, eqb, Option, Some, None, unwrap_or, Result, Ok, Err, if◌then◌else◌, not, refl, sym, ap, ◌∙◌, subst}
+use Rattle.snp_model.specs.GuestMemory.{Memory, Use, Untouched, Reads, Writes, Exchanges, Compares, IsLegalUse, known, used, with_known}
 use Rattle.guest_memory.specs.declared.fault.ApplyFault.{ApplyFault}
-use Rattle.guest_memory.specs.declared.fault.ApplyFault.TheVariants.{NotLegal}
-use Rattle.guest_memory.specs.Uses.{is_compare}
-use Rattle.guest_memory.specs.Answers.{Answers, IsMade, IsRefused, IsCause, IsNotLegal, Touches, IsTouched, IsUntouched, MayTouch, expected_by, found_by}
+use Rattle.guest_memory.specs.Answers.{Answers, IsMade, IsCause, Touches, MayTouch, expected_by, found_by}
 
 -- nothing is done
 pub untouched : (memory : Memory) → IsMade memory Untouched memory

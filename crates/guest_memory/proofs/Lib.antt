@@ -1,3 +1,4 @@
 pub mod AnswersLaws
+pub mod BelongLaws
 pub mod OpeningLaws
 pub mod PagesLaws

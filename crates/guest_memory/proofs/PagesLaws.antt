@@ -1,14 +1,14 @@
 -- What entries hold after a change.
-use Rattle.std.proofs.Common.{◌≡◌, ℕ, zero, suc, ◌+◌, ◌-◌, ◌<◌, ◌≤◌, Bool, true, false, cond, eqb, List, [], ◌∷◌, length, map, replicate, take, get_or, set, Option, Some, None, IsSome, is_some, option_map, unwrap_or, nat_cmp, is_eq, refl, sym, ap, ◌∙◌, subst, ⊎_elim, arith}
-use Rattle.std.specs.FinMap.{empty, get, insert, remove, get-insert, get-remove, get-empty, same_map, nat_cmp-IsAntisymmetric}
+use Rattle.std.proofs.Common.{◌≡◌, ℕ, zero, suc, ◌+◌, ◌-◌, ◌<◌, Bool, true, false, cond, eqb, List, [], ◌∷◌, length, map, replicate, take, get_or, set, Option, Some, None, IsSome, is_some, option_map, unwrap_or, nat_cmp, is_eq, refl, sym, ap, ◌∙◌, subst, ⊎_elim, arith}
+use Rattle.std.specs.FinMap.{get, insert, remove, get-insert, get-remove, get-empty, same_map, nat_cmp-IsAntisymmetric}
 use Rattle.std.specs.Map.{lookup}
 use Rattle.std.specs.BTreeMap.{is_at}
 use Rattle.std.specs.Cmp.{nat_cmp_total}
-use Rattle.std.proofs.lemmas.Bool.{cond_both, cases_eq, eqb-true, eq-eqb, ne_eqb, cond-true, cond-false}
+use Rattle.std.proofs.lemmas.Bool.{cond_both, cases_eq, eqb-true}
 use Rattle.std.proofs.lemmas.List.{length-replicate}
 use Rattle.std.proofs.lemmas.Bool.Decides.{nat_tests}
 use Rattle.snp_model.specs.Locks.{in_range}
-use Rattle.snp_model.specs.GuestMemory.{Places, Memory, IsHeld, known, with_known, with_pages, without_pages, with_frames, unknown_places}
+use Rattle.snp_model.specs.GuestMemory.{Places, Memory, known, with_known, with_pages, without_pages}
 use Rattle.snp_model.proofs.MemoryLaws.{get_with_pages, get_without_pages}
 use Rattle.guest_memory.specs.Pages.{memory_of, with_entry, HasRoom}
 

@@ -4,6 +4,7 @@
 
 mod fault;
 mod item;
+pub mod laws;
 mod memory;
 mod opening;
 mod page;

@@ -1,4 +1,4 @@
-use Rattle.std.proofs.Common.{rules, ◌∙◌, ◌≡◌, ◌+◌, ◌-◌, ◌≤◌, ℕ, suc, replicate, Option, Some, None, refl, sym, ap, subst, arith}
+use Rattle.std.proofs.Common.{rules, ◌∙◌, ◌≡◌, ◌+◌, ◌-◌, ℕ, suc, replicate, refl, ap, arith}
 use Rattle.std.specs.FinMap.{insert}
 use Rattle.snp_model.specs.GuestMemory.{Places, Memory, with_pages, unknown_places}
 use Rattle.guest_memory.proofs.PagesLaws.{popped, same_page, some_page, memory_set, room_set, with_pages_more}

@@ -1,4 +1,4 @@
-use Rattle.std.proofs.Common.{◌∙◌, sym, ap, refl, Option, Some, None}
+use Rattle.std.proofs.Common.{◌∙◌, sym, ap, refl, Option, Some}
 use Rattle.snp_model.specs.GuestMemory.{Places}
 use Rattle.guest_memory.proofs.PagesLaws.{memory_known, memory_unheld}
 use Rattle.guest_memory.proofs.pages.learn.Goals as goal

@@ -1,4 +1,4 @@
-use Rattle.std.proofs.Common.{◌∙◌, ◌+◌}
+use Rattle.std.proofs.Common.{◌∙◌}
 use Rattle.guest_memory.proofs.PagesLaws.{room_more}
 use Rattle.guest_memory.proofs.pages.make_room.Goals as goal
 

@@ -1,4 +1,4 @@
-use Rattle.std.proofs.Common.{rules, refl, ap, ◌+◌, ℕ}
+use Rattle.std.proofs.Common.{refl, ap, ◌+◌, ℕ}
 use Rattle.snp_model.specs.GuestMemory.{with_frames}
 use Rattle.guest_memory.proofs.OpeningLaws.{opened_more}
 use Rattle.guest_memory.proofs.memory.GuestMemory.open.Goals as goal

@@ -1,4 +1,4 @@
-use Rattle.std.proofs.Common.{◌≡◌, ◌<◌, drop}
+use Rattle.std.proofs.Common.{◌≡◌, drop}
 use Rattle.std.specs.List.{AllByRecursion}
 use Rattle.snp_model.specs.GuestMemory.{with_lines}
 use Rattle.snp_model.specs.Opening.{words_from}

@@ -1,4 +1,4 @@
-use Rattle.std.proofs.Common.{◌∙◌, ◌≡◌, rules}
+use Rattle.std.proofs.Common.{◌∙◌, rules}
 use Rattle.guest_memory.proofs.PagesLaws.{all_known}
 use Rattle.guest_memory.proofs.page.Page.of_words.Goals as goal
 
