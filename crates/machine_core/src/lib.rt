@@ -11,8 +11,8 @@
 //! (`next_event`) and goes by the role (`cpu_event`, `host_event`, `firmware_event`) and the item to `cpu_access`,
 //! `host_access` or `skip`. An access of a guest's processor asks `walk_need` what it needs. A word of a table is read by
 //! `reads`, and the access itself is made by `changes`, which take the region's `Bay` from the parts: the check and the
-//! access are one call of `access_step` on it. What comes back is a `Shown`, written to a place of the machine, which `ActorState::take_down` turns into the
-//! event and the actor's next state.
+//! access are one call of `access_step` on it. What an event shows is written to a `Shown` of the machine's, since large
+//! values are slow to hand upward, and `ActorState::take_down` turns it into the event and the actor's next state.
 #![tactic(auto)]
 
 mod actor;
