@@ -31,6 +31,7 @@ pub record IsTable (table : TableId) (cells actors key_cells key_actors : ℕ) :
   pub actors_known : key_actors ≡ actors
   pub some_actor : 0 < actors
   pub few_cells : cells < 4294967295
+  pub few_actors : actors < 4294967296
 
 -- between two calls no slot is out with the pass
 pub record IsReady {S O E : Type 0} (actor : ℕ) (me : Me S (View O E)) : Type 0 where
