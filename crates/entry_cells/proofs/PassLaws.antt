@@ -1,13 +1,12 @@
 -- Lists of passes, and what lies in the slots when they are closed.
-use Rattle.std.proofs.Common.{◌≡◌, ◌≢◌, ◌⊎◌, ℕ, zero, suc, ◌+◌, ◌<◌, ◌≤◌, Bool, true, false, List, [], ◌∷◌, ◌++◌, map, length, set, replicate, slice_index_or, Option, Some, None, sym, refl, ap, ◌∙◌, subst, inl, inr, ⊎_elim, get_or-set_other, get_or-set_same, length-append, length-set, append-nil, arith}
+use Rattle.std.proofs.Common.{◌≡◌, ◌⊎◌, ℕ, zero, suc, ◌+◌, ◌<◌, Bool, false, List, [], ◌∷◌, ◌++◌, map, length, set, replicate, slice_index_or, Option, Some, sym, refl, ap, ◌∙◌, subst, inl, inr, ⊎_elim, get_or-set_other, get_or-set_same, length-set, arith}
 use mathlib.Core.Option.{some, some-injective, some-ne-none}
 use mathlib.Core.Logic.{dite}
 use native.Mathlib.Decide.{ℕ_discrete}
 use lib.ListN.{get_elem?, length-replicate, length-map}
 use Rattle.std.specs.Mem.Slots.Ownership.{Filled}
 use Rattle.atomic_table.proofs.Lists.{at_longer, at_last, at_set, set_here, at_map}
-use Rattle.entry_cells.specs.Entries.{entries_of, BeginsWith}
-use Rattle.entry_cells.specs.Views.{Holds, absorbed, absorbing, making, newcomer, opener}
+use Rattle.entry_cells.specs.Views.{absorbed, absorbing, making, newcomer, opener}
 use Rattle.entry_cells.specs.Rule.{Lies, AbsorbedOk}
 use Rattle.entry_cells.specs.Passes.{CellsView, PassView, IsPassOf, HoldsNothing, AreIdle, AreAll, AreNew, IsNew, Knows, TookAll, Shown, Laid, Closes}
 use Rattle.entry_cells.specs.declared.board.View.{View}
@@ -37,7 +36,7 @@ module _ {O E : Type 0} where
       → ((i : ℕ) (p : PassView O E) → get_elem? all i ≡ some p → (get_elem? xs i ≡ some p) ⊎ Knows v p.view)
       → (i : ℕ) (p : PassView O E) → get_elem? all i ≡ some p → (get_elem? ys i ≡ some p) ⊎ Knows v' p.view
   knows_next all xs ys v x v' is e h i p g = ⊎_elim (λ t. ⊎_elim (λ q. inl q) (λ q. inr (subst (λ (z : View O E). Knows z p.view) (sym is) (subst (λ (z : PassView O E). Knows (absorbing v x.view) z.view) q.1 (knows_it v x.view))))
-        (at_last_or ys x p i (ap (λ (zs : List (PassView O E)). get_elem? zs i) (sym e) ∙ t)))
+      (at_last_or ys x p i (ap (λ (zs : List (PassView O E)). get_elem? zs i) (sym e) ∙ t)))
       (λ t. inr (subst (λ (z : View O E). Knows z p.view) (sym is) (knows_more v x.view p.view t))) (h i p g)
 
   pub knows_all : (all ys : List (PassView O E)) (v : View O E) → ys ≡ [] → ((i : ℕ) (p : PassView O E) → get_elem? all i ≡ some p → (get_elem? ys i ≡ some p) ⊎ Knows v p.view)
@@ -69,10 +68,10 @@ module _ {O E : Type 0} where
   pub new_next : (cells : CellsView O) (xs ys : List (PassView O E)) (x y : PassView O E) (m : ℕ) → AreNew cells xs → get_elem? xs 0 ≡ some x → x.view.made ≡ m → length xs ≡ m
       → y ≡ record { table = x.table; view = newcomer x.view } → ys ≡ set xs 0 record { table = x.table; view = making x.view } ++ y ∷ [] → AreNew cells ys
   new_next cells xs ys x y m h first made long is e i p g = ⊎_elim (λ t. ⊎_elim (λ q. subst (λ (z : PassView O E). (z.table ≡ cells.table) × IsNew cells.cells (i + 1) cells.opening z.view) q.1
-          (let old = h 0 x first in (old.0, subst (λ (k : ℕ). IsNew cells.cells (k + 1) cells.opening (making x.view)) (sym q.0) (made_new cells.cells 1 cells.opening x.view old.1))))
-        (λ q. h i p q.1) (at_set xs 0 i record { table = x.table; view = making x.view } p t))
+      (let old = h 0 x first in (old.0, subst (λ (k : ℕ). IsNew cells.cells (k + 1) cells.opening (making x.view)) (sym q.0) (made_new cells.cells 1 cells.opening x.view old.1))))
+      (λ q. h i p q.1) (at_set xs 0 i record { table = x.table; view = making x.view } p t))
       (λ t. subst (λ (z : PassView O E). (z.table ≡ cells.table) × IsNew cells.cells (i + 1) cells.opening z.view) (sym is ∙ t.1)
-        (let old = h 0 x first in (old.0, next_new cells.cells 1 (i + 1) cells.opening x.view old.1 (made' t.0))))
+      (let old = h 0 x first in (old.0, next_new cells.cells 1 (i + 1) cells.opening x.view old.1 (made' t.0))))
       (at_last_or (set xs 0 record { table = x.table; view = making x.view }) y p i (ap (λ (zs : List (PassView O E)). get_elem? zs i) (sym e) ∙ g))
     where
       made' : i ≡ length (set xs 0 record { table = x.table; view = making x.view }) → x.view.made + 1 ≡ i + 1

@@ -62,11 +62,11 @@ pub(crate) struct Law<T, J> {
     of: PhantomData<(T, J)>,
 }
 
-impl<
-    T: Kept<J>,
-    J: Journal,
-> TableRule<Option<Lodged<T, J>>, View<<J as Journal>::Opening, <J as Journal>::Entry>, About<J>>
-    for Law<T, J> {
+impl<T: Kept<J>, J: Journal> TableRule<
+    Option<Lodged<T, J>>,
+    View<<J as Journal>::Opening, <J as Journal>::Entry>,
+    About<J>,
+> for Law<T, J> {
     ghost use Rattle.entry_cells.specs.Rule.{Sound, opener};
 
     ghost holds = { λ about. Sound T.legal T.stands T.touches J.opening J.list about.cells about.actors (J.opening about.journal.value) };

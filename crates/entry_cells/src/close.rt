@@ -57,9 +57,7 @@ impl<T: Kept<J>, J: Journal> Cells<T, J> {
         ensures { first.new ≡ record first.old { view = absorbing first.old.view other.view } }
     {
         let Pass { actor: _, seat } = other;
-        self.table
-            .shared
-            .join_seat::<Absorb>(&mut first.seat, seat);
+        self.table.shared.join_seat::<Absorb>(&mut first.seat, seat);
     }
 
     // What lies in the slots, by a pass that has taken in all others.
@@ -143,10 +141,7 @@ fn take_cell<T: Drop, J: Drop>(closed: &mut Closed<Option<Lodged<T, J>>, Global>
 }
 
 // The journal in a slot.
-fn take_journal<T: Drop, J: Drop>(
-    closed: &mut Closed<Option<Lodged<T, J>>, Global>,
-    at: usize,
-) -> J
+fn take_journal<T: Drop, J: Drop>(closed: &mut Closed<Option<Lodged<T, J>>, Global>, at: usize) -> J
     requires full { (at < slots_len closed.old.slots) × IsTrue (slice_index_or (slots_filled closed.old.slots) at false) }
     requires value { (j : J) × (get_elem? (slots_items closed.old.slots) at ≡ some (Some (TheJournal j))) }
     ensures value { get_elem? (slots_items closed.old.slots) at ≡ some (Some (TheJournal result)) }

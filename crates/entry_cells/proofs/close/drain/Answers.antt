@@ -1,4 +1,4 @@
-use Rattle.std.proofs.Common.{rules, arith, ap, subst, sym, ◌∙◌}
+use Rattle.std.proofs.Common.{arith}
 use Rattle.entry_cells.proofs.EntryLaws.{in_range}
 use Rattle.entry_cells.proofs.ComingLaws.{closes}
 use Rattle.entry_cells.proofs.PassLaws.{laid_cells, laid_journal, closed_opening, closed_legal, closed_values, closed_passes}

@@ -1,6 +1,6 @@
-use Rattle.std.proofs.Common.{rules, arith, ap, subst, sym, ◌∙◌}
+use Rattle.std.proofs.Common.{ap, sym, ◌∙◌}
 use lib.ListN.{get_elem?}
-use Rattle.entry_cells.proofs.PassLaws.{idle_last, idle_rest, known_last, knows_next, knows_all}
+use Rattle.entry_cells.proofs.PassLaws.{idle_last, idle_rest, known_last, knows_next}
 use Rattle.entry_cells.proofs.table.Cells.joined.Goals as goal
 
 pub rest-init : goal.rest-init

@@ -1,4 +1,4 @@
-use Rattle.std.proofs.Common.{rules, arith, ap, subst, sym, ◌∙◌, ◌+◌, ◌∷◌, [], ◌++◌, ◌<◌, length, set}
+use Rattle.std.proofs.Common.{arith, ap, sym, ◌∙◌, ◌+◌, ◌∷◌, [], ◌++◌, ◌<◌, length, set}
 use Rattle.atomic_table.proofs.Lists.{at_index}
 use Rattle.entry_cells.proofs.PassLaws.{new_next, first_made}
 use Rattle.entry_cells.proofs.table.Cells.passes.Goals as goal
