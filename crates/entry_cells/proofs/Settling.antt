@@ -1,5 +1,5 @@
 -- What stays of the table's rule when one word, its slot and the view of one pass change.
-use Rattle.std.proofs.Common.{◌≡◌, ◌≢◌, ◌⊎◌, ℕ, zero, suc, ◌+◌, ◌<◌, ◌≤◌, Bool, true, false, List, [], ◌∷◌, ◌++◌, length, set, slice_index, Option, Some, None, sym, refl, ap, ◌∙◌, subst, inl, inr, ⊎_elim, length-set, arith}
+use Rattle.std.proofs.Common.{◌≡◌, ◌≢◌, ◌⊎◌, ℕ, ◌+◌, ◌<◌, ◌≤◌, List, length, set, slice_index, Option, Some, sym, refl, ap, ◌∙◌, subst, inl, inr, ⊎_elim, length-set}
 use mathlib.Core.Option.{some, none, some-injective, some-ne-none}
 use mathlib.Core.Option as maybe
 use mathlib.Core.Logic.{dite}
@@ -7,7 +7,7 @@ use native.Mathlib.Decide.{ℕ_discrete}
 use lib.ListN.{get_elem?}
 use Rattle.atomic_table.specs.Table.{State}
 use Rattle.atomic_table.proofs.Lists.{at_set, set_here, set_else}
-use Rattle.entry_cells.specs.Entries.{Untouched, entries_of}
+use Rattle.entry_cells.specs.Entries.{entries_of}
 use Rattle.entry_cells.specs.Views.{Holds}
 use Rattle.entry_cells.specs.Rule.{Lies, ViewOk, Live, Fresh, HeldBy, Away, AtHome, Sound}
 use Rattle.entry_cells.specs.declared.board.View.{View}
@@ -59,18 +59,18 @@ module _ {T J O E : Type 0} (legal : O → List (ℕ × E) → Type 0) (stands :
 
   pub settle : (s : St) (r : Good s) (id : ℕ) (v w : View O E) (k x : ℕ) (hs : List (maybe.Option S)) (log' : List (ℕ × E)) → Step s r.log id v w k x hs log' → Good (after s k x hs id w)
   settle s r id v w k x hs log' d = record {
-      log = log';
-      legal_log = d.legal_log;
-      many_words = length-set s.words k x ∙ r.many_words;
-      many_homes = d.homes;
-      views_ok = λ j u l. ⊎_elim (λ t. subst (λ (z : View O E). ViewOk touches n c log' z) t.1 d.view) (λ t. d.views j u t.0 t.1) (found j u l);
-      each_word = λ j near. dite (ℕ_discrete j k) (λ e. subst (λ (z : ℕ). Home s' log' z ⊎ Away c s' z) (sym e) d.here) (λ ne. ⊎_elim (λ h. inl (home j ne h)) (λ a. inr (away j ne a)) (r.each_word j near));
-      each_hold = λ j u m l h. ⊎_elim (λ t. subst (λ (z : View O E). Holds z m → slice_index s'.words m ≡ z.actor) t.1 (mine m) h) (λ t. other j u m t.0 t.1 h) (found j u l);
-      apart = λ i u j t li lj e. let p = before i u li in let q = before j t lj in r.apart i p.0 j q.0 p.1 q.1 (p.2.actor ∙ e ∙ sym q.2.actor);
-      below = λ i u l. let p = before i u l in subst (λ (z : ℕ). z ≤ actors) p.2.actor (r.below i p.0 p.1);
-      gone = λ i u j t p y li lj e. let b = before i u li in let f = before j t lj in λ is. r.gone i b.0 j f.0 p y b.1 f.1 (ap (λ (zs : List (Absorbed E)). get_elem? zs p) b.2.taken_in ∙ e) (is ∙ sym f.2.actor);
-      fresh = λ i m a l one less. let b = before i m l in fresh a (r.fresh i b.0 a b.1 (b.2.actor ∙ one) (subst (λ (z : ℕ). z < a) (sym b.2.made) less));
-    }
+    log = log';
+    legal_log = d.legal_log;
+    many_words = length-set s.words k x ∙ r.many_words;
+    many_homes = d.homes;
+    views_ok = λ j u l. ⊎_elim (λ t. subst (λ (z : View O E). ViewOk touches n c log' z) t.1 d.view) (λ t. d.views j u t.0 t.1) (found j u l);
+    each_word = λ j near. dite (ℕ_discrete j k) (λ e. subst (λ (z : ℕ). Home s' log' z ⊎ Away c s' z) (sym e) d.here) (λ ne. ⊎_elim (λ h. inl (home j ne h)) (λ a. inr (away j ne a)) (r.each_word j near));
+    each_hold = λ j u m l h. ⊎_elim (λ t. subst (λ (z : View O E). Holds z m → slice_index s'.words m ≡ z.actor) t.1 (mine m) h) (λ t. other j u m t.0 t.1 h) (found j u l);
+    apart = λ i u j t li lj e. let p = before i u li in let q = before j t lj in r.apart i p.0 j q.0 p.1 q.1 (p.2.actor ∙ e ∙ sym q.2.actor);
+    below = λ i u l. let p = before i u l in subst (λ (z : ℕ). z ≤ actors) p.2.actor (r.below i p.0 p.1);
+    gone = λ i u j t p y li lj e. let b = before i u li in let f = before j t lj in λ is. r.gone i b.0 j f.0 p y b.1 f.1 (ap (λ (zs : List (Absorbed E)). get_elem? zs p) b.2.taken_in ∙ e) (is ∙ sym f.2.actor);
+    fresh = λ i m a l one less. let b = before i m l in fresh a (r.fresh i b.0 a b.1 (b.2.actor ∙ one) (subst (λ (z : ℕ). z < a) (sym b.2.made) less));
+  }
     where
       s' : St
       s' = after s k x hs id w
@@ -89,9 +89,16 @@ module _ {T J O E : Type 0} (legal : O → List (ℕ × E) → Type 0) (stands :
 
       away : (j : ℕ) → j ≢ k → Away c s j → Away c s' j
       away j ne a = let i = a.0 in let u = a.1 in let hb : HeldBy c s j i u = a.2 in dite (ℕ_discrete i id)
-          (λ e. let is : u ≡ v = some-injective u v (sym hb.0.0 ∙ ap (λ (z : ℕ). get_elem? s.views z) e ∙ d.live.0) in
-            (id, w, (live', d.keeps j ne (subst (λ (z : View O E). Holds z j) is hb.1), index_else s.words k j x ne ∙ hb.2 ∙ ap (λ (z : View O E). z.actor) is ∙ d.same.actor,
-              ⊎_elim (λ t. inl (d.others_home j ne ∙ t)) (λ t. absurd (ne (d.out_here j (ap (λ (z : View O E). z.out) (sym is) ∙ t)))) hb.3)))
+          (λ e. let is : u ≡ v = some-injective u v (sym hb.0.0 ∙ ap (λ (z : ℕ). get_elem? s.views z) e ∙ d.live.0) in (
+            id,
+            w,
+            (
+              live',
+              d.keeps j ne (subst (λ (z : View O E). Holds z j) is hb.1),
+              index_else s.words k j x ne ∙ hb.2 ∙ ap (λ (z : View O E). z.actor) is ∙ d.same.actor,
+              ⊎_elim (λ t. inl (d.others_home j ne ∙ t)) (λ t. absurd (ne (d.out_here j (ap (λ (z : View O E). z.out) (sym is) ∙ t)))) hb.3,
+            ),
+          ))
           (λ far. (i, u, ((set_else s.views id i w far ∙ hb.0.0, hb.0.1), hb.1, index_else s.words k j x ne ∙ hb.2, ⊎_elim (λ t. inl (d.others_home j ne ∙ t)) (λ t. inr t) hb.3)))
 
       word_here : slice_index s'.words k ≡ x

@@ -1,5 +1,5 @@
 -- What each step tells the pass that makes it. This project's own.
-use Rattle.std.specs.Prelude.{◌≡◌, ◌≢◌, ℕ, ◌+◌, ◌^◌, ◌<◌, List, [], ◌∷◌, ◌++◌, Option, Some, None}
+use Rattle.std.specs.Prelude.{◌≡◌, ◌≢◌, ℕ, ◌+◌, ◌^◌, ◌<◌, List, ◌∷◌, Option, Some, None}
 use Rattle.atomic_table.specs.Table.{Me, Step, rest}
 use Rattle.entry_cells.specs.Entries.{entries_of}
 use Rattle.entry_cells.specs.Views.{Holds, Grows, Adds, with_out, with_none_out, taking, refused, given}

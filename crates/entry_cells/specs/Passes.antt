@@ -1,5 +1,5 @@
 -- What clauses see of cells and of passes, and what a call does to a pass. This project's own.
-use Rattle.std.specs.Prelude.{◌≡◌, ◌≢◌, ◌⊎◌, ℕ, ◌+◌, ◌<◌, ◌≤◌, false, List, [], length, replicate, Option, Some, None}
+use Rattle.std.specs.Prelude.{◌≡◌, ◌≢◌, ◌⊎◌, ℕ, ◌+◌, ◌<◌, ◌≤◌, false, List, [], replicate, Option, Some, None}
 use mathlib.Core.Option.{some}
 use lib.ListN.{get_elem?}
 use Rattle.atomic_table.specs.Seated.{TableId}
@@ -31,6 +31,7 @@ pub record IsTable (table : TableId) (cells actors key_cells key_actors : ℕ) :
   pub actors_known : key_actors ≡ actors
   pub some_actor : 0 < actors
   pub few_cells : cells < 4294967295
+  pub few_actors : actors < 4294967296
 
 -- between two calls no slot is out with the pass
 pub record IsReady {S O E : Type 0} (actor : ℕ) (me : Me S (View O E)) : Type 0 where

@@ -1,6 +1,7 @@
 //! What the table of the cells holds, and what its seats know.
 use crate::journal::{Journal, Kept};
-use atomic_table::{Seat, Shared, TableRule};
+use atomic_table::{Seat, Shared, Table, TableRule};
+use std::alloc::Global;
 use std::collections::LinkedList;
 use std::marker::PhantomData;
 use std::snapshot::Snapshot;
@@ -61,11 +62,11 @@ pub(crate) struct Law<T, J> {
     of: PhantomData<(T, J)>,
 }
 
-impl<
-    T: Kept<J>,
-    J: Journal,
-> TableRule<Option<Lodged<T, J>>, View<<J as Journal>::Opening, <J as Journal>::Entry>, About<J>>
-    for Law<T, J> {
+impl<T: Kept<J>, J: Journal> TableRule<
+    Option<Lodged<T, J>>,
+    View<<J as Journal>::Opening, <J as Journal>::Entry>,
+    About<J>,
+> for Law<T, J> {
     ghost use Rattle.entry_cells.specs.Rule.{Sound, opener};
 
     ghost holds = { λ about. Sound T.legal T.stands T.touches J.opening J.list about.cells about.actors (J.opening about.journal.value) };
@@ -83,4 +84,12 @@ pub(crate) type Board<T, J> = Shared<
 pub(crate) type Place<T, J> = Seat<
     Option<Lodged<T, J>>,
     View<<J as Journal>::Opening, <J as Journal>::Entry>,
+>;
+
+pub(crate) type Cabinet<T, J> = Table<
+    Option<Lodged<T, J>>,
+    View<<J as Journal>::Opening, <J as Journal>::Entry>,
+    About<J>,
+    Law<T, J>,
+    Global,
 >;

@@ -28,7 +28,12 @@ impl<T: Kept<J>, J: Journal> Cells<T, J> {
         ensures stands { IfOk result (λ t. T.stands cell self.now.opening pass.new.view.seen t.value) }
         ensures own { entries_of pass.new.view.actor pass.new.view.seen ≡ pass.new.view.mine }
     {
-        match take_word(&self.table.shared, &mut pass.seat, cell as usize, pass.actor) {
+        match take_word(
+            &self.table.shared,
+            &mut pass.seat,
+            cell as usize,
+            pass.actor,
+        ) {
             Ok(Lodged::Cell(value)) => Ok(Taken { cell, value }),
             Ok(Lodged::Journal(_)) => unreachable!(),
             Err(holder) => Err(Held { holder }),

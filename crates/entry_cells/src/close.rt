@@ -1,13 +1,13 @@
 //! Closing: all passes become one, and what lies in the slots comes out.
-ghost use Rattle.std.specs.Prelude.{◌≡◌, ◌<◌, ◌≤◌, ◌+◌, ℕ, [], List, length, vec_capacity, IfOk, OnOk, Some};
+ghost use Rattle.std.specs.Prelude.{◌≡◌, ◌<◌, ◌≤◌, ◌+◌, ℕ, [], List, length, vec_capacity, false, slice_set, slice_index_or, IsTrue, IfOk, Some};
 ghost use mathlib.Core.Option.{some};
 ghost use lib.ListN.{get_elem?};
-ghost use Rattle.std.specs.Mem.Slots.{slots_items, slots_len, IsFull};
+ghost use Rattle.std.specs.Mem.Slots.{slots_items, slots_filled, slots_len, IsFull};
 ghost use Rattle.entry_cells.specs.Views.{absorbing};
-ghost use Rattle.entry_cells.specs.Passes.{IsPassOf, HoldsNothing, AreIdle, AreAll, Shown, Absorbs, TookAll, Knows};
+ghost use Rattle.entry_cells.specs.Passes.{IsPassOf, HoldsNothing, AreIdle, AreAll, Shown, TookAll, Knows, IsSeated};
 ghost use Rattle.entry_cells.specs.declared.board.Lodged.TheVariants.{Cell, Journal as TheJournal};
 
-use crate::board::{Lodged, View};
+use crate::board::{Cabinet, Lodged, Place, View};
 use crate::journal::{Journal, Kept};
 use crate::plays::Absorb;
 use crate::table::{Cells, Pass};
@@ -36,7 +36,7 @@ impl<T: Kept<J>, J: Journal> Cells<T, J> {
     // All passes as one.
     fn joined(&self, mut passes: Vec<Pass<T, J>>) -> Pass<T, J>
         requires idle { AreIdle self.now passes.items }
-        requires all { AreAll self.now.actors passes.items }
+        requires some { 0 < length passes.items }
         ensures idle { IsPassOf self.now result × HoldsNothing result.view }
         ensures all { (i : ℕ) (p : _) → get_elem? passes.items i ≡ some p → Knows result.view p.view }
     {
@@ -57,9 +57,7 @@ impl<T: Kept<J>, J: Journal> Cells<T, J> {
         ensures { first.new ≡ record first.old { view = absorbing first.old.view other.view } }
     {
         let Pass { actor: _, seat } = other;
-        self.table
-            .shared
-            .join_seat::<Absorb>(&mut first.seat, seat);
+        self.table.shared.join_seat::<Absorb>(&mut first.seat, seat);
     }
 
     // What lies in the slots, by a pass that has taken in all others.
@@ -80,8 +78,30 @@ impl<T: Kept<J>, J: Journal> Cells<T, J> {
             alloc: _,
         } = self;
         let Pass { actor: _, seat } = last;
-        unload(table.close_with(seat), cells as usize, values)
+        drain(table, seat, cells as usize, values)
     }
+}
+
+// Closes the table by a seat that has taken in all others.
+fn drain<T: Kept<J>, J: Journal>(
+    table: Cabinet<T, J>,
+    seat: Place<T, J>,
+    cells: usize,
+    values: Vec<T>,
+) -> (Vec<T>, J)
+    requires seat { IsSeated table.shared.table_id table.shared.key.cells (J.opening table.shared.key.journal.value) seat.table_id seat.me }
+    requires idle { HoldsNothing seat.me.0 }
+    requires all { TookAll table.shared.key.actors seat.me.0 }
+    requires cells { cells ≡ table.shared.key.cells }
+    requires room { (values.items ≡ []) × (cells ≤ vec_capacity values) }
+    ensures count { length result.0.items ≡ cells }
+    ensures opening { J.opening result.1 ≡ J.opening table.shared.key.journal.value }
+    ensures legal { T.legal (J.opening table.shared.key.journal.value) (J.list result.1) }
+    ensures values { (k : ℕ) (x : T) → get_elem? result.0.items k ≡ some x → T.stands k (J.opening table.shared.key.journal.value) (J.list result.1) x }
+    ensures passes { (w : View J.Opening J.Entry) → Knows seat.me.0 w → Shown (J.list result.1) w }
+{
+    let closed = table.close_with(seat);
+    unload(closed, cells, values)
 }
 
 // Takes the values, and then the journal, out of the slots.
@@ -99,14 +119,37 @@ fn unload<T: Drop, J: Drop>(
     ensures journal { get_elem? (slots_items closed.slots) cells ≡ some (Some (TheJournal result.1)) }
 {
     'cells: for k in 0..cells {
-        match closed.take(k) {
-            Some(Lodged::Cell(value)) => values.push_reserved(value),
-            _ => unreachable!(),
-        }
+        values.push_reserved(take_cell(&mut closed, k));
     }
-    let Some(Lodged::Journal(journal)) = closed.take(cells) else {
-        unreachable!()
-    };
+    let journal = take_journal(&mut closed, cells);
     closed.free();
     (values, journal)
+}
+
+// The value in a slot.
+fn take_cell<T: Drop, J: Drop>(closed: &mut Closed<Option<Lodged<T, J>>, Global>, at: usize) -> T
+    requires full { (at < slots_len closed.old.slots) × IsTrue (slice_index_or (slots_filled closed.old.slots) at false) }
+    requires value { (x : T) × (get_elem? (slots_items closed.old.slots) at ≡ some (Some (Cell x))) }
+    ensures value { get_elem? (slots_items closed.old.slots) at ≡ some (Some (Cell result)) }
+    ensures others { (slots_items closed.new.slots ≡ slots_items closed.old.slots) × (slots_filled closed.new.slots ≡ slice_set (slots_filled closed.old.slots) at false) × (slots_len closed.new.slots ≡ slots_len closed.old.slots) }
+{
+    match closed.take(at) {
+        Some(Lodged::Cell(value)) => value,
+        Some(Lodged::Journal(_)) => unreachable!(),
+        None => unreachable!(),
+    }
+}
+
+// The journal in a slot.
+fn take_journal<T: Drop, J: Drop>(closed: &mut Closed<Option<Lodged<T, J>>, Global>, at: usize) -> J
+    requires full { (at < slots_len closed.old.slots) × IsTrue (slice_index_or (slots_filled closed.old.slots) at false) }
+    requires value { (j : J) × (get_elem? (slots_items closed.old.slots) at ≡ some (Some (TheJournal j))) }
+    ensures value { get_elem? (slots_items closed.old.slots) at ≡ some (Some (TheJournal result)) }
+    ensures others { (slots_items closed.new.slots ≡ slots_items closed.old.slots) × (slots_filled closed.new.slots ≡ slice_set (slots_filled closed.old.slots) at false) × (slots_len closed.new.slots ≡ slots_len closed.old.slots) }
+{
+    match closed.take(at) {
+        Some(Lodged::Journal(journal)) => journal,
+        Some(Lodged::Cell(_)) => unreachable!(),
+        None => unreachable!(),
+    }
 }

@@ -5,6 +5,7 @@ ghost use Rattle.entry_cells.specs.Entries.{Untouched};
 /// A journal begins with an opening, which no call changes, and has a list of pairs of actor and entry, the oldest first.
 pub trait Journal: Drop {
     type Opening;
+
     type Entry;
 
     ghost opening: { Self → Self.Opening };

@@ -8,10 +8,10 @@ pub(crate) struct Take<T, J> {
     of: PhantomData<(T, J)>,
 }
 
-impl<
-    T: Kept<J>,
-    J: Journal,
-> Play<Option<Lodged<T, J>>, View<<J as Journal>::Opening, <J as Journal>::Entry>> for Take<T, J> {
+impl<T: Kept<J>, J: Journal> Play<
+    Option<Lodged<T, J>>,
+    View<<J as Journal>::Opening, <J as Journal>::Entry>,
+> for Take<T, J> {
     ghost use Rattle.entry_cells.specs.Moves.{takes};
 
     ghost then = { takes T.legal T.stands T.touches J.opening J.list };
@@ -21,10 +21,10 @@ pub(crate) struct Give<T, J> {
     of: PhantomData<(T, J)>,
 }
 
-impl<
-    T: Kept<J>,
-    J: Journal,
-> Play<Option<Lodged<T, J>>, View<<J as Journal>::Opening, <J as Journal>::Entry>> for Give<T, J> {
+impl<T: Kept<J>, J: Journal> Play<
+    Option<Lodged<T, J>>,
+    View<<J as Journal>::Opening, <J as Journal>::Entry>,
+> for Give<T, J> {
     ghost use Rattle.entry_cells.specs.Moves.{gives};
 
     ghost then = { gives J.list };

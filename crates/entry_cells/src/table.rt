@@ -1,22 +1,15 @@
 //! The cells, and the passes that their threads use.
 ghost use Rattle.std.specs.Prelude.{◌≡◌};
 
-use crate::board::{About, Law, Lodged, Place, View};
+use crate::board::{Cabinet, Place};
 use crate::journal::{Journal, Kept};
-use atomic_table::{Seat, Table};
 use std::alloc::Global;
 use std::marker::Model;
 
 /// Cells, each with its value at home or with the pass that took it, and a journal.
 #[derive(Drop)]
 pub struct Cells<T: Kept<J>, J: Journal> {
-    pub(crate) table: Table<
-        Option<Lodged<T, J>>,
-        View<<J as Journal>::Opening, <J as Journal>::Entry>,
-        About<J>,
-        Law<T, J>,
-        Global,
-    >,
+    pub(crate) table: Cabinet<T, J>,
     pub(crate) cells: u32,
     pub(crate) actors: u32,
     pub(crate) alloc: Global,
@@ -36,10 +29,7 @@ impl<T: Kept<J>, J: Journal> Model for Cells<T, J> {
 #[derive(Drop)]
 pub struct Pass<T, J: Journal> {
     pub(crate) actor: u32,
-    pub(crate) seat: Seat<
-        Option<Lodged<T, J>>,
-        View<<J as Journal>::Opening, <J as Journal>::Entry>,
-    >,
+    pub(crate) seat: Place<T, J>,
 }
 
 impl<T, J: Journal> Model for Pass<T, J> {

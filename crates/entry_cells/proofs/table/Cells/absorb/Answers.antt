@@ -1,4 +1,4 @@
-use Rattle.std.proofs.Common.{rules, arith, ap, subst, ◌∙◌}
+use Rattle.std.proofs.Common.{rules}
 use Rattle.entry_cells.proofs.ComingLaws.{absorbs}
 use Rattle.entry_cells.proofs.table.Cells.absorb.Goals as goal
 

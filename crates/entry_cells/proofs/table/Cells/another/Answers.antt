@@ -1,4 +1,4 @@
-use Rattle.std.proofs.Common.{rules, arith, ap, subst, ◌∙◌}
+use Rattle.std.proofs.Common.{rules}
 use Rattle.entry_cells.proofs.ComingLaws.{forks}
 use Rattle.entry_cells.proofs.table.Cells.another.Goals as goal
 
