@@ -94,7 +94,7 @@ class Search:
     def complete(self, before: bytes, awake_first: List[int]) -> Played:
         """A run of a schedule's beginning, with each actor then run to its end in this order."""
         counts = {actor: max(0, self.totals.get(actor, self.bound(actor)) - before.count(actor)) for actor in awake_first}
-        while True:
+        for _ in range(self.patience):
             schedule = before + b''.join(bytes([actor]) * counts[actor] for actor in awake_first)
             found, refused = self.ask(schedule[:ORDER_LIMIT])
             if found is None:
@@ -112,13 +112,14 @@ class Search:
                     self.totals[actor] = self.totals.get(actor, 0) + 1
                 return Played(schedule, found.events, found.lines)
             counts[left[0]] = self.bound(left[0])
+        raise self.lost()
 
     def shuffled(self, before: bytes, source: random.Random) -> Played:
         """A run of some interleaving behind a schedule's beginning."""
         counts = {actor: max(0, self.totals.get(actor, self.bound(actor)) - before.count(actor)) for actor in self.scenario.actors}
         behind = [actor for actor, many in counts.items() for _ in range(many)]
         source.shuffle(behind)
-        while True:
+        for _ in range(self.patience):
             schedule = before + bytes(behind)
             found, refused = self.ask(schedule[:ORDER_LIMIT])
             if found is None:
@@ -129,6 +130,15 @@ class Search:
             if not left:
                 return Played(schedule, found.events, found.lines)
             behind += [left[0]] * self.bound(left[0])
+        raise self.lost()
+
+    @property
+    def patience(self) -> int:
+        """How often a schedule is mended; each actor's count is wrong a few times at most."""
+        return 16 * len(self.scenario.actors) + 16
+
+    def lost(self) -> Complaint:
+        return Complaint('the scripts don\'t end where the reports say, so this scenario can\'t be explored', self.scenario.name)
 
     def touch(self, event: Event) -> Touch:
         return touch_of(event, self.has_firmware) if self.reduce else EVERYTHING
