@@ -1,4 +1,4 @@
-use Rattle.std.proofs.Common.{◌∙◌, ℕ, Option, refl}
+use Rattle.std.proofs.Common.{◌∙◌, refl}
 use Rattle.snp_model.specs.Entries.{facts_at, holder_at}
 use Rattle.fw_launch.proofs.LockLaws.{lock_holds}
 use Rattle.fw_launch.proofs.page.page_lock.Goals as goal
