@@ -145,9 +145,9 @@ fn rows_of_a_small_page(rt: HostRuntime) -> Result<(), Fail> {
         assert!(rt; entry.size == PageSize::Small && gpn < 0x1000);
         assert!(rt; rmp.effective(9).size == PageSize::Small);
         rmp.write_entry(9, entry);
-        if locked {
-            lock(&rt, &mut rmp, 9, 2);
-        }
+        let other = if locked { 9 } else { 400 };
+        assert!(rt; other < 512);
+        lock(&rt, &mut rmp, other, 2);
         let before = rmp.holder(9);
         let found = answer(&rt, &mut rmp, &place(9, gpn, leaf), size);
         assert_eq!(rt; found, want, "{entry:?} {gpn} {leaf:?} {size:?}");
