@@ -196,9 +196,9 @@ fn rows(rt: HostRuntime) -> Result<(), Fail> {
         assert!(rt; entry.size == PageSize::Small && gpn < 0x1000 && vmpl < 4);
         assert!(rt; rmp.effective(9).size == PageSize::Small);
         rmp.write_entry(9, entry);
-        if locked {
-            lock(&rt, &mut rmp, 9, 2);
-        }
+        let other = if locked { 9 } else { 400 };
+        assert!(rt; other < 512);
+        lock(&rt, &mut rmp, other, 2);
         let before = rmp.holder(9);
         let found = answer(&rt, &mut rmp, &place(vmpl, gpn, leaf), size, asked);
         assert_eq!(rt; found, want, "{entry:?} {vmpl} {asked:?}");
