@@ -103,8 +103,8 @@ uniform_whole old new lock change uniform covering changes whole =
           by_range (covers f lock) (AreOfOnePage new f g)
           (λ is. changed_page old new change f g uniform (changes.inside f is) (changes.inside g (covering f g is (before f large) same)) page)
           (λ is. one_page_same old new f g (changes.beside f is)
-              (changes.beside g (by_range (covers g lock) (covers g lock ≡ false)
-                  (λ there. absurd (true≢false (sym (covering g f there ((sizes_whole old whole).large f g (before f large) same) (sym same)) ∙ is))) (λ out. out))) page);
+          (changes.beside g (by_range (covers g lock) (covers g lock ≡ false)
+          (λ there. absurd (true≢false (sym (covering g f there ((sizes_whole old whole).large f g (before f large) same) (sym same)) ∙ is))) (λ out. out))) page);
       aligned = λ f large. ap (λ (q : ℕ). q % 512) (uniform_gpn old new lock change (page_base Large f) uniform changes) ∙ whole.aligned f (before f large);
     }
 
@@ -233,20 +233,20 @@ large_update_whole update frame pages aligned gpn whole =
       together = λ f g large same.
           by_range (covers f lock) (AreOfOnePage new f g)
           (λ is. let there = region_covered frame f g aligned is same in
-              region_pair update frame pages f g (makes_immutable update (pages frame).facts) update.assigned new (low_of frame f is) (low_of frame g there) (facts_by update frame pages f is) (facts_by update frame pages g there)
-              (λ before. whole.together f g before same) large)
+          region_pair update frame pages f g (makes_immutable update (pages frame).facts) update.assigned new (low_of frame f is) (low_of frame g there) (facts_by update frame pages f is) (facts_by update frame pages g there)
+          (λ before. whole.together f g before same) large)
           (λ is. let large_before = ap (λ (x : RmpEntry). x.size) (sym (facts_beside update lock pages f is)) ∙ large in
-              one_page_same pages new f g (facts_beside update lock pages f is)
-              (facts_beside update lock pages g (beside_region frame f g aligned is same)) (whole.together f g large_before same));
+          one_page_same pages new f g (facts_beside update lock pages f is)
+          (facts_beside update lock pages g (beside_region frame f g aligned is same)) (whole.together f g large_before same));
       aligned = λ f large.
           let b = page_base Large f in
           by_range (covers f lock) ((new b).facts.gpn % 512 ≡ 0)
           (λ is.
-              let there = region_covered frame f b aligned is (base_region f) in
-              let first : b ≡ frame = base_is frame f aligned is in
-              region_base update frame pages f b new aligned gpn is there first whole refl refl large)
+          let there = region_covered frame f b aligned is (base_region f) in
+          let first : b ≡ frame = base_is frame f aligned is in
+          region_base update frame pages f b new aligned gpn is there first whole refl refl large)
           (λ is. let large_before = ap (λ (x : RmpEntry). x.size) (sym (facts_beside update lock pages f is)) ∙ large in
-              ap (λ (x : RmpEntry). x.gpn % 512) (facts_beside update lock pages b (beside_region frame f b aligned is (base_region f))) ∙ whole.aligned f large_before);
+          ap (λ (x : RmpEntry). x.gpn % 512) (facts_beside update lock pages b (beside_region frame f b aligned is (base_region f))) ∙ whole.aligned f large_before);
     }
 
 -- so for either size
@@ -274,7 +274,7 @@ smash_whole frame pages whole =
     let lock = page_lock Large frame in
     let new = pages_smashed lock pages in
     let out = λ (f : ℕ) (large : (new f).facts.size ≡ Large).
-        by_range (covers f lock) (covers f lock ≡ false) (λ is. absurd (small_not_large (new f).facts.size (smashed_small lock pages f is) large)) (λ is. is) in
+    by_range (covers f lock) (covers f lock ≡ false) (λ is. absurd (small_not_large (new f).facts.size (smashed_small lock pages f is) large)) (λ is. is) in
     let before = λ (f : ℕ) (large : (new f).facts.size ≡ Large). ap (λ (x : RmpEntry). x.size) (sym (smashed_facts_beside lock pages f (out f large))) ∙ large in
     record {
       together = λ f g large same. one_page_same pages new f g (smashed_facts_beside lock pages f (out f large)) (smashed_facts_beside lock pages g (beside_page frame f g (out f large) same)) (whole.together f g (before f large) same);

@@ -99,7 +99,7 @@ page_unlocked_by pages actors frame g k Small whole exclusive size_is free insid
 page_unlocked_by pages actors frame g k Large whole exclusive size_is free inside =
     let region = page_region frame g inside in
     not_true (locks_frame g (actor_at actors k)) (λ locked.
-        true≢false (sym (exclusive.whole k g frame locked (whole.large frame g size_is region) (sym region)) ∙ free))
+    true≢false (sym (exclusive.whole k g frame locked (whole.large frame g size_is region) (sym region)) ∙ free))
 
 pub page_unlocked : (pages : Pages) (actors : List ActorPart) (frame g : ℕ) → AreWholePages pages → HaveOneHolder pages actors
     → holder_from 1 actors frame ≡ None → covers g (page_lock (pages frame).facts.size frame) ≡ true → IsUnlocked actors g
@@ -209,13 +209,13 @@ one_after test actors a part j k idle one grown at_j at_k =
     let by_k = locked_after test actors a part k idle at_k in
     ⊎_elim
     (λ (j_is : j ≡ a). ⊎_elim
-        (λ (k_is : k ≡ a). j_is ∙ sym k_is)
-        (λ (k_not : k ≡ a → ⊥). absurd (k_not (alone test actors a part k one grown (by_j.own j_is) (by_k.others k_not))))
-        (cases_eq k a))
+    (λ (k_is : k ≡ a). j_is ∙ sym k_is)
+    (λ (k_not : k ≡ a → ⊥). absurd (k_not (alone test actors a part k one grown (by_j.own j_is) (by_k.others k_not))))
+    (cases_eq k a))
     (λ (j_not : j ≡ a → ⊥). ⊎_elim
-        (λ (k_is : k ≡ a). absurd (j_not (alone test actors a part j one grown (by_k.own k_is) (by_j.others j_not))))
-        (λ (k_not : k ≡ a → ⊥). one j k (by_j.others j_not) (by_k.others k_not))
-        (cases_eq k a))
+    (λ (k_is : k ≡ a). absurd (j_not (alone test actors a part j one grown (by_k.own k_is) (by_j.others j_not))))
+    (λ (k_not : k ≡ a → ⊥). one j k (by_j.others j_not) (by_k.others k_not))
+    (cases_eq k a))
     (cases_eq j a)
 
 -- what an actor's part has locked after an event

@@ -102,12 +102,12 @@ small_updated_whole update frame pages asked small whole = record {
   large = λ f g large region.
       let lock = range_lock Small frame in
       let at_f = λ (inside : covers f lock ≡ true).
-          small_not_large _ (size_inside update lock pages f inside ∙ small_after update (pages frame).facts (pages f).facts.size asked (subst (λ (k : ℕ). (pages k).facts.size ≡ Small) (sym (small_range_covered frame f inside)) small)) large in
+      small_not_large _ (size_inside update lock pages f inside ∙ small_after update (pages frame).facts (pages f).facts.size asked (subst (λ (k : ℕ). (pages k).facts.size ≡ Small) (sym (small_range_covered frame f inside)) small)) large in
       let before = λ (beside : covers f lock ≡ false). whole.large f g (sym (size_beside update lock pages f beside) ∙ large) region in
       by_range (covers f lock) ((pages_updated update lock pages g).facts.size ≡ Large) (λ inside. absurd (at_f inside))
       (λ beside. by_range (covers g lock) ((pages_updated update lock pages g).facts.size ≡ Large)
-          (λ inside. absurd (small_not_large (pages g).facts.size (subst (λ (k : ℕ). (pages k).facts.size ≡ Small) (sym (small_range_covered frame g inside)) small) (before beside)))
-          (λ outside. size_beside update lock pages g outside ∙ before beside));
+      (λ inside. absurd (small_not_large (pages g).facts.size (subst (λ (k : ℕ). (pages k).facts.size ≡ Small) (sym (small_range_covered frame g inside)) small) (before beside)))
+      (λ outside. size_beside update lock pages g outside ∙ before beside));
 }
 
 large_updated_whole : (update : Update) (frame : ℕ) (pages : Pages) → frame % 512 ≡ 0 → AreWholePages pages → AreWholePages (pages_updated update (range_lock Large frame) pages)
@@ -117,12 +117,12 @@ large_updated_whole update frame pages aligned whole = record {
       let first = (pages frame).facts in
       by_range (covers f lock) ((pages_updated update lock pages g).facts.size ≡ Large)
       (λ inside.
-          let there = region_covered frame f g aligned inside region in
-          size_inside update lock pages g there
-          ∙ large_after update first (pages f).facts.size (pages g).facts.size (λ before. whole.large f g before region) (sym (size_inside update lock pages f inside) ∙ large))
+      let there = region_covered frame f g aligned inside region in
+      size_inside update lock pages g there
+      ∙ large_after update first (pages f).facts.size (pages g).facts.size (λ before. whole.large f g before region) (sym (size_inside update lock pages f inside) ∙ large))
       (λ beside. by_range (covers g lock) ((pages_updated update lock pages g).facts.size ≡ Large)
-          (λ inside. absurd (true≢false (sym (region_covered frame g f aligned inside (sym region)) ∙ beside)))
-          (λ outside. size_beside update lock pages g outside ∙ whole.large f g (sym (size_beside update lock pages f beside) ∙ large) region));
+      (λ inside. absurd (true≢false (sym (region_covered frame g f aligned inside (sym region)) ∙ beside)))
+      (λ outside. size_beside update lock pages g outside ∙ whole.large f g (sym (size_beside update lock pages f beside) ∙ large) region));
 }
 
 -- so for either size
@@ -174,9 +174,9 @@ update_locks m part update [] is stands =
     let passed = λ (none : option_map refused_outcome refusal ≡ None). update_passes m.frames update facts holder (no_outcome refusal none) in
     lock_locks m part Host (items.Rmpupdate update) (update_lock update) (option_map refused_outcome refusal) stands
     (λ none. let passes = passed none in
-        range_free m.contents.pages m.actors update.size update.frame (first_small m.contents.pages update passes.fits) (bad_aligned m.frames update passes.fine) passes.unheld)
+    range_free m.contents.pages m.actors update.size update.frame (first_small m.contents.pages update passes.fits) (bad_aligned m.frames update passes.fine) passes.unheld)
     (λ none. first_lock (IsUpdateLock m.frames m.contents update) part (update_lock update) is stands.tested
-        (record { covers = refl; passes = update_freed m.frames update facts holder (no_outcome refusal none) }))
+    (record { covers = refl; passes = update_freed m.frames update facts holder (no_outcome refusal none) }))
 update_locks m part update (lock ∷ others) is stands =
     let tested = subst (IsOneLock (IsUpdateLock m.frames m.contents update)) is stands.tested.lock in
     let facts = λ (place : ℕ). facts_of m.contents (update.frame + place) in
@@ -206,8 +206,8 @@ smashed_whole frame pages whole = record {
       by_range (covers f lock) ((pages_smashed lock pages g).facts.size ≡ Large)
       (λ inside. absurd (small_not_large _ (smashed_inside lock pages f inside) large))
       (λ beside. by_range (covers g lock) ((pages_smashed lock pages g).facts.size ≡ Large)
-          (λ inside. absurd (true≢false (sym (region_page frame f (page_region frame g inside ∙ sym region)) ∙ beside)))
-          (λ outside. smashed_beside lock pages g outside ∙ whole.large f g (sym (smashed_beside lock pages f beside) ∙ large) region));
+      (λ inside. absurd (true≢false (sym (region_page frame f (page_region frame g inside ∙ sym region)) ∙ beside)))
+      (λ outside. smashed_beside lock pages g outside ∙ whole.large f g (sym (smashed_beside lock pages f beside) ∙ large) region));
 }
 
 is_large_size : (size : PageSize) → is_large size ≡ true → size ≡ Large
@@ -226,7 +226,7 @@ smash_locks m part frame [] is stands =
     lock_locks m part Host (items.Psmash frame) lock (option_map refused_outcome refusal) stands
     (λ none. page_free m.contents.pages m.actors frame stands.whole stands.exclusive (smash_passes m.frames frame facts holder (no_outcome refusal none)).unheld)
     (λ none. first_lock (IsSmashLock m.frames m.contents frame) part lock is stands.tested
-        (record { covers = refl; passes = smash_freed m.frames frame facts holder (no_outcome refusal none) }))
+    (record { covers = refl; passes = smash_freed m.frames frame facts holder (no_outcome refusal none) }))
 smash_locks m part frame (lock ∷ others) is stands =
     let tested = subst (IsOneLock (IsSmashLock m.frames m.contents frame)) is stands.tested.lock in
     let facts = facts_of m.contents frame in

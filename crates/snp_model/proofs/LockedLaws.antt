@@ -132,8 +132,8 @@ unfolding update_refusal
 update_kept frames old new update lock firm is = record {
   covers = is.covers;
   passes = ap (cond (is_bad_update frames update) (Some _)) (sym (update_range_same update (λ place. facts_of old (update.frame + place)) (λ place. facts_of new (update.frame + place)) (λ place. None) (λ place. None)
-        (λ place within. firm_facts old new (update.frame + place) (firm (update.frame + place) (in_update update lock place is.covers within)))
-        (λ place within. refl)))
+      (λ place within. firm_facts old new (update.frame + place) (firm (update.frame + place) (in_update update lock place is.covers within)))
+      (λ place within. refl)))
       ∙ is.passes;
 }
 
@@ -226,7 +226,7 @@ metadata_firm : (facts : RmpEntry) → is_metadata (state_of facts) ≡ true →
 unfolding state_of
 metadata_firm facts is =
     elim facts.assigned as (λ (assigned : Bool). is_metadata (cond (not assigned) states.Hypervisor (cond (eqb facts.asid 0) (cond facts.immutable (firmware_state facts.kind) states.Reclaim)
-        (cond facts.immutable (cond facts.validated states.PreSwap states.PreGuest) (cond facts.validated states.GuestValid states.GuestInvalid)))) ≡ true → (assigned ≡ true) × (facts.immutable ≡ true))
+    (cond facts.immutable (cond facts.validated states.PreSwap states.PreGuest) (cond facts.validated states.GuestValid states.GuestInvalid)))) ≡ true → (assigned ≡ true) × (facts.immutable ≡ true))
     [ true ↦ λ e. (refl, firm_state facts.immutable (eqb facts.asid 0) facts.validated facts.kind e) | false ↦ λ e. absurd (true≢false (sym e)) ] is
 
 -- what was allowed when a page was locked
@@ -245,7 +245,7 @@ page_kept frames asid command page old new firm none =
     let words = extra_same command page.part asid (state_of old.facts) old.words new.words state (λ metadata. let is = metadata_firm old.facts metadata in sym (firm.words is.0 is.1)) in
     ap (option_or (frame_refusal frames page.frame))
     (ap (λ (facts : RmpEntry). option_or (page_refusal command page.part facts None asid) (page_extra command page.part asid new.words)) firm.facts
-        ∙ ap (option_or (page_refusal command page.part old.facts None asid)) (sym words))
+    ∙ ap (option_or (page_refusal command page.part old.facts None asid)) (sym words))
     ∙ none
 
 command_kept : (frames : ℕ) (guests : List GuestSpec) (old new : Contents) (command : Command) (standing : Standing) → ((f : ℕ) → list_any (covers f) standing.locks ≡ true → IsFirm (new.pages f) (old.pages f))
@@ -378,13 +378,13 @@ tested_after m actor place move keeps locks =
     let new = part_after part move move.outcome in
     ⊎_elim
     (λ (same : place ≡ actor - 1). ⊎_elim
-        (λ (within : actor - 1 < length m.actors).
-        subst (λ (k : ℕ). IsTestedAt m.frames m.guests move.contents (actor_at (set m.actors (actor - 1) new) k)) (sym same)
-        (subst (IsTestedAt m.frames m.guests move.contents) (sym (get_or-set_same m.actors (actor - 1) new idle_part within)) (tested_part m part move move.outcome refl locks)))
-        (λ (past : length m.actors ≤ actor - 1).
-        subst (λ (xs : List ActorPart). IsTestedAt m.frames m.guests move.contents (actor_at xs place)) (sym (set_past m.actors (actor - 1) new past))
-        (subst (IsTestedAt m.frames m.guests move.contents) (sym (past_idle m.actors place (omega arith))) (idle_tested m move.contents)))
-        (cases_lt (actor - 1) (length m.actors)))
+    (λ (within : actor - 1 < length m.actors).
+    subst (λ (k : ℕ). IsTestedAt m.frames m.guests move.contents (actor_at (set m.actors (actor - 1) new) k)) (sym same)
+    (subst (IsTestedAt m.frames m.guests move.contents) (sym (get_or-set_same m.actors (actor - 1) new idle_part within)) (tested_part m part move move.outcome refl locks)))
+    (λ (past : length m.actors ≤ actor - 1).
+    subst (λ (xs : List ActorPart). IsTestedAt m.frames m.guests move.contents (actor_at xs place)) (sym (set_past m.actors (actor - 1) new past))
+    (subst (IsTestedAt m.frames m.guests move.contents) (sym (past_idle m.actors place (omega arith))) (idle_tested m move.contents)))
+    (cases_lt (actor - 1) (length m.actors)))
     (λ (other : place ≡ actor - 1 → ⊥).
     subst (IsTestedAt m.frames m.guests move.contents) (sym (get_or-set_other m.actors (actor - 1) place new idle_part other)) (tested_other m actor place _ _ move keeps locks other))
     (cases_eq place (actor - 1))

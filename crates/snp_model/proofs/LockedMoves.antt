@@ -104,7 +104,7 @@ written_firm : (frame index value : ℕ) (pages : Pages) (f : ℕ) → ((pages f
 written_firm frame index value pages f loose = record {
   facts = with_word_facts frame index value pages f;
   words = λ assigned immutable. with_word_other frame index value pages f (λ same.
-          loose (subst (λ (k : ℕ). (pages k).facts.assigned ≡ true) same assigned) (subst (λ (k : ℕ). (pages k).facts.immutable ≡ true) same immutable));
+      loose (subst (λ (k : ℕ). (pages k).facts.assigned ≡ true) same assigned) (subst (λ (k : ℕ). (pages k).facts.immutable ≡ true) same immutable));
 }
 
 pages_firm : (op : Op) (frame index word : ℕ) (pages : Pages) (f : ℕ) → ((pages frame).facts.assigned ≡ true → (pages frame).facts.immutable ≡ true → ⊥) → IsFirm (pages_after op frame index word pages f) (pages f)

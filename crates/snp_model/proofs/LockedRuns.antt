@@ -77,7 +77,7 @@ locked_firm m a holder frame keeps walking unfinished before now =
     let move = move_at m a in
     ⊎_elim
     (λ (same : holder - 1 ≡ a - 1). own_firm m a frame _ _ move move.outcome refl locks
-        (subst (λ (part : ActorPart). locks_frame frame part ≡ true) (part_then m a unfinished) (subst (λ (part : ActorPart). locks_frame frame part ≡ true) (same_place (after m a) holder a same) now)))
+    (subst (λ (part : ActorPart). locks_frame frame part ≡ true) (part_then m a unfinished) (subst (λ (part : ActorPart). locks_frame frame part ≡ true) (same_place (after m a) holder a same) now)))
     (λ (other : holder - 1 ≡ a - 1 → ⊥). locks.own frame (not_true (locks_frame frame (part_of m a)) (λ own. other (keeps.one.pages_by_one (holder - 1) (a - 1) frame before own))))
     (cases_eq (holder - 1) (a - 1))
 
@@ -89,7 +89,7 @@ locked_context m a holder guest keeps walking unfinished before now =
     let move = move_at m a in
     ⊎_elim
     (λ (same : holder - 1 ≡ a - 1). own_context m a guest _ _ move move.outcome refl locks
-        (subst (λ (part : ActorPart). locks_context guest part ≡ true) (part_then m a unfinished) (subst (λ (part : ActorPart). locks_context guest part ≡ true) (same_place (after m a) holder a same) now)))
+    (subst (λ (part : ActorPart). locks_context guest part ≡ true) (part_then m a unfinished) (subst (λ (part : ActorPart). locks_context guest part ≡ true) (same_place (after m a) holder a same) now)))
     (λ (other : holder - 1 ≡ a - 1 → ⊥). locks.own_contexts guest (not_true (locks_context guest (part_of m a)) (λ own. other (keeps.one.contexts_by_one (holder - 1) (a - 1) guest before own))))
     (cases_eq (holder - 1) (a - 1))
 

@@ -134,7 +134,7 @@ page_locks : (m : State) (part : ActorPart) (item : Item) (cpu : Processor) (add
     → (refusal ≡ None → (view_of m).holder frame ≡ None) → (refusal ≡ None → test (page_place (asid_of m.guests cpu.guest) cpu.vmpl gpn frame leaf) (facts_of m.contents frame) ≡ None)
     → AreInstructionLocks (IsWalkedLock m.frames m.guests m.contents cpu address test part.deeds) part.standing
     → (AreInstructionLocks (IsWalkedLock m.frames m.guests m.contents cpu address test (part.deeds ++ deeds.Lock frame ∷ [])) (record part.standing { locks = part.standing.locks ++ page_lock (facts_of m.contents frame).size frame ∷ [] })
-        → AreItemLocks m.frames m.guests m.contents (role_of cpu) item (part.deeds ++ deeds.Lock frame ∷ []) (record part.standing { locks = part.standing.locks ++ page_lock (facts_of m.contents frame).size frame ∷ [] }))
+    → AreItemLocks m.frames m.guests m.contents (role_of cpu) item (part.deeds ++ deeds.Lock frame ∷ []) (record part.standing { locks = part.standing.locks ++ page_lock (facts_of m.contents frame).size frame ∷ [] }))
     → MoveLocks m part (role_of cpu) item (instruction_lock (view_of m) part (page_lock (facts_of m.contents frame).size frame) refusal)
 page_locks m part item cpu address test refusal gpn private frame leaf stands none need unheld passes tested is_item =
     let lock = page_lock (facts_of m.contents frame).size frame in
@@ -143,14 +143,14 @@ page_locks m part item cpu address test refusal gpn private frame leaf stands no
     lock_locks m part (role_of cpu) item lock (option_map refused_outcome refusal) stands
     (λ open_is. page_free m.contents.pages m.actors frame stands.whole stands.exclusive (unheld (no_outcome refusal open_is)))
     (λ open_is. is_item (first_lock (Holds made) part lock none (none_tested (Holds part.deeds) (Holds made) part none tested)
-        (record {
-          gpn = gpn;
-          private = private;
-          leaf = leaf;
-          arrived = locked_need m.frames cpu (page_lookup address) part.deeds frame ∙ need;
-          covers = refl;
-          passes = passes (no_outcome refusal open_is);
-        })))
+    (record {
+      gpn = gpn;
+      private = private;
+      leaf = leaf;
+      arrived = locked_need m.frames cpu (page_lookup address) part.deeds frame ∙ need;
+      covers = refl;
+      passes = passes (no_outcome refusal open_is);
+    })))
 
 -- the lock that an instruction has, and where its walks have led
 record HasCome (m : State) (part : ActorPart) (cpu : Processor) (address : ℕ) (test : PageTest) (lock : PageLock) : Type 0 where
@@ -215,8 +215,8 @@ validate_from m part cpu address size validate (lock ∷ others) some stands =
     subst (MoveLocks m part (role_of cpu) item)
     (sym (arrived_move m.frames m.guests m.contents part cpu (page_lookup address) (validate_begin cpu address size) arrives part.deeds come.holds.gpn come.holds.private lock.frame come.holds.leaf come.long come.holds.arrived))
     (memory_locks m part (role_of cpu) item _ _ (pages_validated validate own lock pages)
-        (λ f free. validated_firm validate own lock pages f (beside_lock part lock others f some free))
-        (same_whole pages (pages_validated validate own lock pages) (validated_size validate own lock pages) stands.whole))
+    (λ f free. validated_firm validate own lock pages f (beside_lock part lock others f some free))
+    (same_whole pages (pages_validated validate own lock pages) (validated_size validate own lock pages) stands.whole))
 
 pub validate_locks : (m : State) (part : ActorPart) (cpu : Processor) (address : ℕ) (size : PageSize) (validate : Bool) → Stands m part (role_of cpu) (items.Pvalidate address size validate)
     → MoveLocks m part (role_of cpu) (items.Pvalidate address size validate) (cpu_validate m.frames m.guests (view_of m) part cpu address size validate)
@@ -249,8 +249,8 @@ adjust_from m part cpu address size target mask vmsa (lock ∷ others) some stan
     subst (MoveLocks m part (role_of cpu) item)
     (sym (arrived_move m.frames m.guests m.contents part cpu (page_lookup address) (adjust_begin cpu address size target mask) arrives part.deeds come.holds.gpn come.holds.private lock.frame come.holds.leaf come.long come.holds.arrived))
     (memory_locks m part (role_of cpu) item _ _ new
-        (λ f free. adjusted_firm cpu.vmpl target mask vmsa lock pages f (beside_lock part lock others f some free))
-        (same_whole pages new (adjusted_size cpu.vmpl target mask vmsa lock pages) stands.whole))
+    (λ f free. adjusted_firm cpu.vmpl target mask vmsa lock pages f (beside_lock part lock others f some free))
+    (same_whole pages new (adjusted_size cpu.vmpl target mask vmsa lock pages) stands.whole))
 
 pub adjust_locks : (m : State) (part : ActorPart) (cpu : Processor) (address : ℕ) (size : PageSize) (target mask : ℕ) (vmsa : Bool) → Stands m part (role_of cpu) (items.Rmpadjust address size target mask vmsa)
     → MoveLocks m part (role_of cpu) (items.Rmpadjust address size target mask vmsa) (cpu_adjust m.frames m.guests (view_of m) part cpu address size target mask vmsa)

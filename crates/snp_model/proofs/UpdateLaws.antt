@@ -142,12 +142,13 @@ is_updated : (asid : ℕ) (update : Update) (first : RmpEntry) (place : ℕ) (pa
 unfolding updated_facts updated_words
 is_updated asid update first place page fits may =
     elim (makes_immutable update first) as (λ (b : Bool). (b ≡ true → page.facts.assigned ≡ true) →
-        IsUpdated asid update page.facts (cond b (record page.facts { immutable = true; kind = immutable_kind update.asid page.facts.kind }) (cond (not update.assigned) free_entry (assigned_facts update place)))
-        page.words (cond b page.words (cond page.facts.assigned zero_words page.words)))
-    [ true ↦ λ assigned. frozen_updated asid update page.facts page.words fits may.mutable (assigned refl)
-    | false ↦ λ assigned. cond_both (not update.assigned) _ _ (λ (facts : RmpEntry). IsUpdated asid update page.facts facts page.words (cond page.facts.assigned zero_words page.words))
-        (λ _. free_updated asid update page.facts page.words _ (words_whole page.facts.assigned page.words))
-        (λ _. assigned_updated asid update place page.facts page.words _ (words_whole page.facts.assigned page.words)) ]
+    IsUpdated asid update page.facts (cond b (record page.facts { immutable = true; kind = immutable_kind update.asid page.facts.kind }) (cond (not update.assigned) free_entry (assigned_facts update place)))
+    page.words (cond b page.words (cond page.facts.assigned zero_words page.words))) [
+      | true ↦ λ assigned. frozen_updated asid update page.facts page.words fits may.mutable (assigned refl)
+      | false ↦ λ assigned. cond_both (not update.assigned) _ _ (λ (facts : RmpEntry). IsUpdated asid update page.facts facts page.words (cond page.facts.assigned zero_words page.words))
+          (λ _. free_updated asid update page.facts page.words _ (words_whole page.facts.assigned page.words))
+          (λ _. assigned_updated asid update place page.facts page.words _ (words_whole page.facts.assigned page.words))
+    ]
     may.assigned
 
 -- what the lock of an RMPUPDATE has tested of its range, as it holds at the commit
@@ -163,7 +164,7 @@ update_fine guest asid archive memory old update lock before may =
     let one = λ (f : ℕ) (inside : in_range lock.base lock.count f ≡ true). is_updated asid update first (f - lock.base) (pages f) (before.fits f) (may f inside) in
     lessens_fine guest asid archive memory old (over lock.base lock.count (updated_page update first) pages) before
     (over_frames (Lessens asid) lock.base lock.count (updated_page update first) pages (λ f. lessens_itself asid (pages f))
-        (λ f inside. record { held = (one f inside).held; metadata = λ is. absurd ((one f inside).metadata is) }))
+    (λ f inside. record { held = (one f inside).held; metadata = λ is. absurd ((one f inside).metadata is) }))
     (over_frames (λ (new page : Page). length new.words ≡ 512) lock.base lock.count (updated_page update first) pages before.whole (λ f inside. (one f inside).whole (before.whole f)))
     (over_frames (λ (new page : Page). KindFits new.facts) lock.base lock.count (updated_page update first) pages before.fits (λ f inside. (one f inside).fits))
 
@@ -176,6 +177,6 @@ smash_fine guest asid archive memory old lock before =
     let change = λ (place : ℕ). smashed_page in
     lessens_fine guest asid archive memory old (over_lock lock smashed_page pages) before
     (over_frames (Lessens asid) lock.base lock.count change pages (λ f. lessens_itself asid (pages f))
-        (λ f inside. record { held = λ gpn h. (record { assigned = h.assigned; validated = h.validated; asid_is = h.asid_is; gpn_is = h.gpn_is }, refl); metadata = λ is. (is, refl) }))
+    (λ f inside. record { held = λ gpn h. (record { assigned = h.assigned; validated = h.validated; asid_is = h.asid_is; gpn_is = h.gpn_is }, refl); metadata = λ is. (is, refl) }))
     (over_frames (λ (new page : Page). length new.words ≡ 512) lock.base lock.count change pages before.whole (λ f inside. before.whole f))
     (over_frames (λ (new page : Page). KindFits new.facts) lock.base lock.count change pages before.fits (λ f inside. record { assigned = (before.fits f).assigned; immutable = (before.fits f).immutable }))
