@@ -1,9 +1,9 @@
 -- What the events of a command of the firmware do to locks: its context's, its pages', its compute and its commit.
-use Rattle.std.proofs.Common.{◌≡◌, ◌≢◌, ◌⊎◌, ℕ, zero, suc, ◌+◌, ◌-◌, ◌<◌, ◌≤◌, Bool, true, false, not, ◌&&◌, ◌||◌, cond, eqb, List, [], ◌∷◌, ◌++◌, length, get_or, Option, Some, None, slice_get, unwrap_or, is_some, Result, Ok, Err, refl, sym, ap, ◌∙◌, subst, ⊎_elim, inl, inr, arith}
-use Rattle.std.proofs.lemmas.Bool.{cond_both, true≢false, eqb-true, eqb-false}
+use Rattle.std.proofs.Common.{◌≡◌, ◌≢◌, ℕ, zero, suc, ◌+◌, ◌<◌, ◌≤◌, Bool, true, false, not, ◌&&◌, cond, eqb, List, [], ◌∷◌, ◌++◌, length, get_or, Option, Some, None, slice_get, unwrap_or, is_some, Result, Ok, Err, refl, sym, ap, ◌∙◌, subst, inl, inr, arith}
+use Rattle.std.proofs.lemmas.Bool.{cond_both, true≢false, eqb-true}
 use Rattle.std.proofs.lemmas.Bool.Decides.{nat_tests}
 use Rattle.std.proofs.lemmas.List.Folds.{list_any_at}
-use Rattle.std.proofs.lemmas.Option.{slice_get_within, slice_get_past, slice_get-get_or, get_or_from_slice_get}
+use Rattle.std.proofs.lemmas.Option.{slice_get_within, slice_get-get_or, get_or_from_slice_get}
 use Rattle.std.specs.List.{list_any}
 use Rattle.std.specs.Option.{option_map, option_or}
 use Rattle.snp_model.specs.declared.command.Command.{Command}
@@ -15,31 +15,28 @@ use Rattle.snp_model.specs.declared.event.Deed.TheVariants as deeds
 use Rattle.snp_model.specs.declared.event.FwRefusal.{FwRefusal}
 use Rattle.snp_model.specs.declared.event.FwRefusal.TheVariants as refusals
 use Rattle.snp_model.specs.declared.event.Outcome.{Outcome}
-use Rattle.snp_model.specs.declared.event.Outcome.TheVariants as outcomes
 use Rattle.snp_model.specs.declared.firmware.MetaEntry.{MetaEntry}
 use Rattle.snp_model.specs.declared.firmware.Part.{Part}
 use Rattle.snp_model.specs.declared.firmware.Part.TheVariants.{Source, Target}
 use Rattle.snp_model.specs.declared.firmware.PageState.{PageState}
 use Rattle.snp_model.specs.declared.firmware.PageState.TheVariants as states
-use Rattle.snp_model.specs.declared.item.Item.{Item}
 use Rattle.snp_model.specs.declared.item.Item.TheVariants as items
 use Rattle.snp_model.specs.declared.scenario.Role.TheVariants.{Firmware}
 use Rattle.snp_model.specs.declared.scenario.GuestSpec.{GuestSpec}
-use Rattle.snp_model.specs.Firmware.{CommandPage, guest_of, pages_of, success, has_equal_frames, invalid_param, invalid_page_size}
-use Rattle.snp_model.specs.FirmwareCommits.{at_frame, at_guest, context_facts, context_page, launched_facts, launched_page, metadata_facts, metadata_page, taken_facts, taken, placed, reclaim_facts, released, with_words, restored_facts, restored, metadata_out_facts, metadata_out, metadata_in, given_back_facts, reclaimed_as, reclaimed_page}
+use Rattle.snp_model.specs.Firmware.{CommandPage, guest_of, pages_of, has_equal_frames, invalid_param, invalid_page_size}
+use Rattle.snp_model.specs.FirmwareCommits.{at_frame, at_guest, context_facts, launched_facts, metadata_facts, taken_facts, reclaim_facts, restored_facts, metadata_out_facts, given_back_facts, reclaimed_as, reclaimed_page}
 use Rattle.snp_model.specs.FirmwareLocks.{guest_refusal, frame_refusal, context_refusal, page_refusal, page_extra, unless_held, takes_large}
-use Rattle.snp_model.specs.FirmwareStep.{Phase, TakeContext, TakePage, Computing, Committing, context_phase, pages_phase, phase_of, refused, context_taken, take_context, command_asid, lock_refusal, take_page, computed_move, nothing_made, first_lock, pages_moved, pages_after, context_committed, contexts_after, commit_move, phase_move, firmware_move}
-use Rattle.snp_model.specs.HeldLocks.{IsCommandLock, IsCommandContext, AreCommandLocks, AreItemLocks}
-use Rattle.snp_model.specs.Locks.{in_range, over_lock, covers, locks_frame, locks_context, page_lock, context_holder_from, view_of}
-use Rattle.snp_model.specs.Moves.{Move, quiet_move, lock_move}
+use Rattle.snp_model.specs.FirmwareStep.{Phase, context_phase, pages_phase, refused, context_taken, take_context, command_asid, lock_refusal, take_page, computed_move, nothing_made, first_lock, pages_moved, pages_after, contexts_after, commit_move, phase_move, firmware_move}
+use Rattle.snp_model.specs.HeldLocks.{IsCommandLock, AreCommandLocks, AreItemLocks}
+use Rattle.snp_model.specs.Locks.{over_lock, covers, locks_frame, locks_context, page_lock, context_holder_from, view_of}
 use Rattle.snp_model.specs.PageStates.{state_of}
-use Rattle.snp_model.specs.Sealing.{What, GuestPage, MetadataPage, Slot, OfEntry, OfRoot, Sealing, SealOut, SealIn, sealing_of, compute_of, given_up, brought_back, entry_set, with_slot_entry, no_entry, pages_out, pages_in}
-use Rattle.snp_model.specs.State.{Page, Pages, PageLock, Context, Contexts, Contents, Computed, Standing, ActorPart, State}
+use Rattle.snp_model.specs.Sealing.{What, GuestPage, MetadataPage, Slot, OfEntry, OfRoot, Sealing, sealing_of, compute_of, given_up, brought_back, with_slot_entry, pages_out, pages_in}
+use Rattle.snp_model.specs.State.{Page, Pages, PageLock, Context, Contexts, Computed, ActorPart, State}
 use Rattle.snp_model.specs.Verdicts.{is_large}
 use Rattle.snp_model.proofs.HeldLocksLaws.{lock_freed, guest_context_freed}
-use Rattle.snp_model.proofs.LockLaws.{actor_at, AreWholePages, IsFree, page_free, own_covered, not_true, context_idle, first_none, others_none}
-use Rattle.snp_model.proofs.LockedMoves.{IsFirm, firm_itself, opened, Stands, GoesOn, MoveLocks, quiet_locks, ended_locks, lock_locks, same_whole}
-use Rattle.snp_model.proofs.TestedLaws.{Let, let_through}
+use Rattle.snp_model.proofs.LockLaws.{actor_at, page_free, own_covered, not_true, context_idle, first_none, others_none}
+use Rattle.snp_model.proofs.LockedMoves.{IsFirm, firm_itself, Stands, MoveLocks, ended_locks, lock_locks, same_whole}
+use Rattle.snp_model.proofs.TestedLaws.{let_through}
 
 -- a page that isn't one of a command's
 abbrev pub IsBeside : ℕ → List CommandPage → Type 0

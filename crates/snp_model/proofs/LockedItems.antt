@@ -1,41 +1,28 @@
 -- What each item's event does to locks: the instructions and the accesses of processors.
-use Rattle.std.proofs.Common.{◌≡◌, ◌≢◌, ◌⊎◌, ℕ, zero, suc, ◌+◌, ◌-◌, ◌/◌, ◌%◌, ◌<◌, Bool, true, false, not, ◌&&◌, ◌||◌, cond, eqb, List, [], ◌∷◌, ◌++◌, Option, Some, None, refl, sym, ap, ◌∙◌, subst, ⊎_elim, inl, inr, arith}
+use Rattle.std.proofs.Common.{◌≡◌, ℕ, ◌+◌, ◌-◌, ◌%◌, Bool, true, false, not, ◌&&◌, cond, eqb, List, [], ◌∷◌, ◌++◌, Option, Some, None, refl, sym, ap, ◌∙◌, subst, arith}
 use Rattle.std.proofs.lemmas.Bool.{cond_both, true≢false}
 use Rattle.std.proofs.lemmas.Bool.Decides.{nat_tests}
 use Rattle.std.specs.List.{list_any}
 use Rattle.std.specs.Option.{option_map}
-use Rattle.snp_model.specs.declared.access.Place.{Place}
-use Rattle.snp_model.specs.declared.access.Verdict.{Verdict}
-use Rattle.snp_model.specs.declared.access.Verdict.TheVariants.{Pass, Hidden, Fault}
 use Rattle.snp_model.specs.declared.entry.PageSize.{PageSize}
 use Rattle.snp_model.specs.declared.entry.PageSize.TheVariants.{Small, Large}
 use Rattle.snp_model.specs.declared.entry.RmpEntry.{RmpEntry}
-use Rattle.snp_model.specs.declared.event.Deed.{Deed}
-use Rattle.snp_model.specs.declared.event.Deed.TheVariants as deeds
-use Rattle.snp_model.specs.declared.event.Outcome.{Outcome}
-use Rattle.snp_model.specs.declared.event.Outcome.TheVariants as outcomes
 use Rattle.snp_model.specs.declared.event.Refusal.{Refusal}
-use Rattle.snp_model.specs.declared.item.Item.{Item}
 use Rattle.snp_model.specs.declared.item.Item.TheVariants as items
-use Rattle.snp_model.specs.declared.item.Op.{Op}
 use Rattle.snp_model.specs.declared.item.Update.{Update}
-use Rattle.snp_model.specs.declared.scenario.GuestSpec.{GuestSpec}
-use Rattle.snp_model.specs.declared.scenario.Role.{Role}
-use Rattle.snp_model.specs.declared.scenario.Role.TheVariants.{Cpu, Host, Firmware}
-use Rattle.snp_model.specs.Facts.{free_entry, frames_in}
-use Rattle.snp_model.specs.InstructionStep.{refused_outcome, facts_of, instruction_lock, update_move, smash_move}
-use Rattle.snp_model.specs.Locks.{in_range, over, over_lock, covers, locks_frame, page_lock, range_lock, view_of}
+use Rattle.snp_model.specs.declared.scenario.Role.TheVariants.{Host}
+use Rattle.snp_model.specs.Facts.{free_entry}
+use Rattle.snp_model.specs.InstructionStep.{refused_outcome, facts_of, update_move, smash_move}
+use Rattle.snp_model.specs.Locks.{over, covers, locks_frame, page_lock, range_lock, view_of}
 use Rattle.snp_model.specs.HeldLocks.{IsUpdateLock, IsSmashLock, IsOneLock, AreInstructionLocks, AreItemLocks}
-use Rattle.snp_model.specs.Moves.{Move, memory_move, lock_move}
-use Rattle.snp_model.specs.RmpUpdate.{is_bad_update, overlaps, update_lock, update_refusal, makes_immutable, immutable_kind, assigned_facts, updated_facts, updated_page, pages_updated, is_bad_smash, smash_refusal, smashed_page, pages_smashed}
-use Rattle.snp_model.specs.State.{Page, Pages, PageLock, Contents, ActorPart, State}
-use Rattle.snp_model.specs.Validation.{validated_facts, validated_page, pages_validated, adjusted_page, pages_adjusted}
+use Rattle.snp_model.specs.RmpUpdate.{is_bad_update, overlaps, update_lock, update_refusal, makes_immutable, immutable_kind, assigned_facts, updated_facts, updated_page, pages_updated, smash_refusal, smashed_page, pages_smashed}
+use Rattle.snp_model.specs.State.{Page, Pages, PageLock, ActorPart, State}
 use Rattle.snp_model.specs.Verdicts.{is_large}
 use Rattle.snp_model.proofs.HeldLocksLaws.{update_freed, smash_freed}
-use Rattle.snp_model.proofs.LockLaws.{AreOfOneRegion, AreWholePages, HaveOneHolder, IsFree, page_free, range_free, small_range_covered, region_covered, page_region, region_page, small_not_large}
-use Rattle.snp_model.proofs.LockedMoves.{IsFirm, Stands, MoveLocks, lock_locks, memory_locks, firm_itself, same_whole}
+use Rattle.snp_model.proofs.LockLaws.{AreWholePages, page_free, range_free, small_range_covered, region_covered, page_region, region_page, small_not_large}
+use Rattle.snp_model.proofs.LockedMoves.{IsFirm, Stands, MoveLocks, lock_locks, memory_locks, firm_itself}
 use Rattle.snp_model.proofs.RangeLaws.{over_beside}
-use Rattle.snp_model.proofs.TestedLaws.{UpdatePasses, update_passes, SmashPasses, smash_passes, first_fails}
+use Rattle.snp_model.proofs.TestedLaws.{update_passes, smash_passes, first_fails}
 
 -- a change over a lock's range leaves the other frames
 pub over_firm : (lock : PageLock) (change : ℕ → Page → Page) (pages : Pages) (f : ℕ) → covers f lock ≡ false → IsFirm (over lock.base lock.count change pages f) (pages f)

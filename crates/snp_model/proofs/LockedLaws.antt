@@ -1,6 +1,6 @@
 -- In every state of a run no frame and no context is locked by two actors, what a lock has tested still holds, and what is locked stays as it is.
-use Rattle.std.proofs.Common.{◌≡◌, ◌≢◌, ◌⊎◌, ℕ, zero, suc, ◌+◌, ◌-◌, ◌<◌, ◌≤◌, Bool, true, false, not, ◌&&◌, ◌||◌, cond, eqb, List, [], ◌∷◌, ◌++◌, All, length, get_or, set, slice_get, Option, Some, None, refl, sym, ap, ◌∙◌, subst, ⊎_elim, inl, inr, arith}
-use Rattle.std.proofs.lemmas.Bool.{cond_both, cases_eq, cases_lt, true≢false}
+use Rattle.std.proofs.Common.{◌≡◌, ◌≢◌, ℕ, zero, suc, ◌+◌, ◌-◌, ◌<◌, ◌≤◌, Bool, true, false, not, ◌&&◌, ◌||◌, cond, eqb, List, [], ◌∷◌, length, set, Option, Some, None, refl, sym, ap, ◌∙◌, subst, ⊎_elim, arith}
+use Rattle.std.proofs.lemmas.Bool.{cases_eq, cases_lt, true≢false}
 use Rattle.std.proofs.lemmas.Bool.Decides.{nat_tests}
 use Rattle.std.proofs.lemmas.List.{get_or-set_same, get_or-set_other, set_past}
 use Rattle.std.specs.List.{list_any}
@@ -9,7 +9,6 @@ use Rattle.snp_model.specs.declared.command.Command.{Command}
 use Rattle.snp_model.specs.declared.command.Command.TheVariants as commands
 use Rattle.snp_model.specs.declared.entry.Kind.{Kind}
 use Rattle.snp_model.specs.declared.entry.PageSize.{PageSize}
-use Rattle.snp_model.specs.declared.entry.PageSize.TheVariants.{Large}
 use Rattle.snp_model.specs.declared.entry.RmpEntry.{RmpEntry}
 use Rattle.snp_model.specs.declared.event.Deed.{Deed}
 use Rattle.snp_model.specs.declared.event.Deed.TheVariants as deeds
@@ -28,27 +27,27 @@ use Rattle.snp_model.specs.declared.scenario.GuestSpec.{GuestSpec}
 use Rattle.snp_model.specs.declared.scenario.Role.{Role}
 use Rattle.snp_model.specs.declared.scenario.Role.TheVariants.{Cpu, Host, Firmware}
 use Rattle.snp_model.specs.Facts.{frames_in}
-use Rattle.snp_model.specs.Firmware.{CommandPage, pages_of, invalid_page_size, invalid_page_state}
+use Rattle.snp_model.specs.Firmware.{CommandPage, invalid_page_size, invalid_page_state}
 use Rattle.snp_model.specs.FirmwareLocks.{guest_refusal, context_refusal, frame_refusal, page_refusal, page_extra, source_refusal, entry_refusal, owned_refusal, out_entry_refusal, in_entry_refusal, takes_large}
 use Rattle.snp_model.specs.FirmwareStep.{command_asid, lock_refusal}
-use Rattle.snp_model.specs.HeldLocks.{PageTest, IsUpdateLock, IsSmashLock, IsWalkedLock, IsCommandLock, IsCommandContext, AreCommandLocks, IsOneLock, AreInstructionLocks, AreItemLocks, AreTested}
+use Rattle.snp_model.specs.HeldLocks.{PageTest, IsUpdateLock, IsSmashLock, IsWalkedLock, AreCommandLocks, IsOneLock, AreInstructionLocks, AreItemLocks, AreTested}
 use Rattle.snp_model.specs.InstructionStep.{facts_of, page_place}
-use Rattle.snp_model.specs.Locks.{in_range, covers, locks_frame, locks_context, page_lock, range_lock, view_of}
+use Rattle.snp_model.specs.Locks.{covers, locks_frame, locks_context, page_lock, range_lock, view_of}
 use Rattle.snp_model.specs.Metadata.{entry_at}
 use Rattle.snp_model.specs.Moves.{Move}
 use Rattle.snp_model.specs.Opening.{asid_of}
-use Rattle.snp_model.specs.OpenAttempts.{IsAttempt, IsWalking, AreWalking}
-use Rattle.snp_model.specs.PageStates.{state_of, firmware_state, is_metadata, allowed, of_two, of_three, target_alone, has_owner}
-use Rattle.snp_model.specs.RmpUpdate.{update_lock, update_refusal, update_range_refusal, is_bad_update, smash_refusal}
-use Rattle.snp_model.specs.State.{Page, Pages, PageLock, Context, Contents, Standing, nothing_taken, ActorPart, State, part_of, idle_part}
+use Rattle.snp_model.specs.OpenAttempts.{IsWalking}
+use Rattle.snp_model.specs.PageStates.{state_of, firmware_state, is_metadata, allowed}
+use Rattle.snp_model.specs.RmpUpdate.{update_lock, update_refusal, is_bad_update, smash_refusal}
+use Rattle.snp_model.specs.State.{Page, PageLock, Context, Contents, Standing, nothing_taken, ActorPart, State, part_of, idle_part}
 use Rattle.snp_model.specs.Step.{item_move, host_access, line_at, part_after, after}
-use Rattle.snp_model.specs.Verdicts.{host_verdict, is_large}
-use Rattle.snp_model.specs.Walking.{Processor, index_of}
+use Rattle.snp_model.specs.Verdicts.{is_large}
+use Rattle.snp_model.specs.Walking.{Processor}
 use Rattle.snp_model.proofs.FirmwareLocked.{covers_at, held_context, firmware_locks}
 use Rattle.snp_model.proofs.InstructionLocality.{update_range_same}
-use Rattle.snp_model.proofs.LockLaws.{actor_at, AreWholePages, HaveOneHolder, IsUnlocked, Grows, exclusive_after, own_covered, not_true, first_none, others_none}
+use Rattle.snp_model.proofs.LockLaws.{actor_at, AreWholePages, HaveOneHolder, Grows, exclusive_after, own_covered, not_true, first_none, others_none}
 use Rattle.snp_model.proofs.LockedItems.{update_locks, smash_locks}
-use Rattle.snp_model.proofs.LockedMoves.{IsFirm, opened, Stands, GoesOn, MoveLocks, ended_locks, access_locks}
+use Rattle.snp_model.proofs.LockedMoves.{IsFirm, Stands, MoveLocks, ended_locks, access_locks}
 use Rattle.snp_model.proofs.LockedWalks.{cpu_access_locks, validate_locks, adjust_locks}
 use Rattle.snp_model.proofs.TestedLaws.{let_through, not_false}
 use Rattle.snp_model.proofs.UseLaws.{host_holds_none}

@@ -1,15 +1,11 @@
 -- What each event does to locks, and to the frames that others have locked.
-use Rattle.std.proofs.Common.{◌≡◌, ◌≢◌, ◌⊎◌, ℕ, zero, suc, ◌+◌, ◌-◌, ◌/◌, ◌%◌, ◌<◌, Bool, true, false, not, ◌&&◌, ◌||◌, cond, eqb, List, [], ◌∷◌, ◌++◌, Option, Some, None, refl, sym, ap, ◌∙◌, subst, ⊎_elim, inl, inr, arith}
-use Rattle.std.proofs.lemmas.Bool.{cond_both, true≢false}
-use Rattle.std.proofs.lemmas.Bool.Decides.{nat_tests}
+use Rattle.std.proofs.Common.{◌≡◌, ◌⊎◌, ℕ, Bool, true, false, ◌||◌, List, [], ◌∷◌, ◌++◌, Option, Some, None, refl, sym, ap, ◌∙◌, subst, ⊎_elim, inl, inr}
+use Rattle.std.proofs.lemmas.Bool.{true≢false}
 use Rattle.std.proofs.lemmas.List.Folds.{list_any-append}
 use Rattle.std.specs.List.{list_any}
-use Rattle.std.specs.Option.{option_map}
-use Rattle.snp_model.specs.declared.access.Place.{Place}
 use Rattle.snp_model.specs.declared.access.Verdict.{Verdict}
 use Rattle.snp_model.specs.declared.access.Verdict.TheVariants.{Pass, Hidden, Fault}
-use Rattle.snp_model.specs.declared.entry.PageSize.{PageSize}
-use Rattle.snp_model.specs.declared.entry.PageSize.TheVariants.{Small, Large}
+use Rattle.snp_model.specs.declared.entry.PageSize.TheVariants.{Large}
 use Rattle.snp_model.specs.declared.entry.RmpEntry.{RmpEntry}
 use Rattle.snp_model.specs.declared.event.Deed.{Deed}
 use Rattle.snp_model.specs.declared.event.Deed.TheVariants as deeds
@@ -18,13 +14,12 @@ use Rattle.snp_model.specs.declared.event.Outcome.TheVariants as outcomes
 use Rattle.snp_model.specs.declared.item.Item.{Item}
 use Rattle.snp_model.specs.declared.item.Op.{Op}
 use Rattle.snp_model.specs.declared.item.Op.TheVariants.{Load, Store, Swap, Compare, Xor}
-use Rattle.snp_model.specs.declared.scenario.GuestSpec.{GuestSpec}
 use Rattle.snp_model.specs.declared.scenario.Role.{Role}
-use Rattle.snp_model.specs.Locks.{in_range, over, over_lock, covers, locks_frame, locks_context, view_of}
+use Rattle.snp_model.specs.Locks.{covers, locks_frame, locks_context}
 use Rattle.snp_model.specs.HeldLocks.{AreItemLocks}
 use Rattle.snp_model.specs.OpenAttempts.{IsAttempt}
 use Rattle.snp_model.specs.Moves.{Move, memory_move, quiet_move, lock_move}
-use Rattle.snp_model.specs.State.{Page, Pages, PageLock, Contents, ActorPart, State, with_word, word_of}
+use Rattle.snp_model.specs.State.{Page, Pages, PageLock, ActorPart, State, with_word, word_of}
 use Rattle.snp_model.specs.Operations.{outcome_of}
 use Rattle.snp_model.specs.Step.{access_move, pages_after}
 use Rattle.snp_model.proofs.CoreLaws.{with_word_facts, with_word_other}

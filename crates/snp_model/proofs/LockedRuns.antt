@@ -1,9 +1,7 @@
 -- So in every run, whatever items a scenario has: from an opening whose pages of 2 MB are whole.
-use Rattle.std.proofs.Common.{◌≡◌, ◌≢◌, ◌⊎◌, ℕ, zero, suc, ◌+◌, ◌-◌, ◌/◌, ◌<◌, ◌≤◌, Bool, true, false, List, [], ◌∷◌, All, length, map, get_or, Option, Some, None, refl, sym, ap, ◌∙◌, subst, ⊎_elim, inl, inr, arith}
+use Rattle.std.proofs.Common.{◌≡◌, ℕ, zero, suc, ◌-◌, ◌<◌, Bool, true, false, List, [], ◌∷◌, map, Option, Some, None, refl, sym, ap, ◌∙◌, subst, ⊎_elim, arith}
 use Rattle.std.proofs.lemmas.Bool.{cases_eq, true≢false}
-use Rattle.snp_model.specs.declared.entry.Kind.{Kind}
 use Rattle.snp_model.specs.declared.entry.Kind.TheVariants as kinds
-use Rattle.snp_model.specs.declared.entry.PageSize.TheVariants.{Large}
 use Rattle.snp_model.specs.declared.entry.RmpEntry.{RmpEntry}
 use Rattle.snp_model.specs.declared.event.Outcome.{Outcome}
 use Rattle.snp_model.specs.declared.item.Item.{Item}
@@ -12,18 +10,18 @@ use Rattle.snp_model.specs.declared.scenario.GuestSpec.{GuestSpec}
 use Rattle.snp_model.specs.declared.scenario.Role.{Role}
 use Rattle.snp_model.specs.declared.scenario.Role.TheVariants.{Host}
 use Rattle.snp_model.specs.declared.scenario.Scenario.{Scenario}
-use Rattle.snp_model.specs.HeldLocks.{AreExclusive, HasThroughout, StaysAs, StaysLocked, AreTested, AreLocked}
+use Rattle.snp_model.specs.HeldLocks.{AreExclusive, HasThroughout, StaysAs, AreTested, AreLocked}
 use Rattle.snp_model.specs.Locks.{locks_frame, locks_context}
 use Rattle.snp_model.specs.Moves.{Move}
 use Rattle.snp_model.specs.OpenAttempts.{IsWalking, AreWalking}
 use Rattle.snp_model.specs.Opening.{opening, opening_part}
 use Rattle.snp_model.specs.Run.{state_from, state_after, IsDefined, IsDefinedFrom}
-use Rattle.snp_model.specs.Shapes.{AreFactsOf, AreShaped}
-use Rattle.snp_model.specs.State.{Page, Pages, Context, Contents, ActorPart, State, part_of, idle_part, IsUnfinished}
-use Rattle.snp_model.specs.Step.{line_at, part_after, after}
-use Rattle.snp_model.proofs.LockLaws.{actor_at, AreWholePages, HaveOneHolder, not_true}
+use Rattle.snp_model.specs.Shapes.{AreShaped}
+use Rattle.snp_model.specs.State.{Page, Pages, Contents, ActorPart, State, part_of, idle_part, IsUnfinished}
+use Rattle.snp_model.specs.Step.{part_after, after}
+use Rattle.snp_model.proofs.LockLaws.{actor_at, AreWholePages, not_true}
 use Rattle.snp_model.proofs.LockedLaws.{IsTestedAt, KeepsLocks, step_keeps_locks, move_at, move_locks, nothing_tested}
-use Rattle.snp_model.proofs.LockedMoves.{IsFirm, firm_itself, opened, MoveLocks}
+use Rattle.snp_model.proofs.LockedMoves.{IsFirm, firm_itself, MoveLocks}
 use Rattle.snp_model.proofs.OpenAttemptsLaws.{after_walking, opening_walking}
 use Rattle.snp_model.proofs.RunLaws.{unfinished_at, after_part}
 

@@ -1,8 +1,7 @@
 -- What the events of a guest processor's items do to locks: their beginning, their walks, and what they do at their page.
-use Rattle.std.proofs.Common.{◌≡◌, ◌≢◌, ℕ, ◌+◌, ◌%◌, ◌<◌, Bool, true, false, not, List, [], ◌∷◌, ◌++◌, length, Option, Some, None, refl, sym, ap, ◌∙◌, subst, arith}
+use Rattle.std.proofs.Common.{◌≡◌, ℕ, ◌<◌, Bool, true, false, not, List, [], ◌∷◌, ◌++◌, length, Option, Some, None, refl, sym, ap, ◌∙◌, subst, arith}
 use Rattle.std.proofs.lemmas.Bool.{cond_both, true≢false}
 use Rattle.std.specs.Option.{option_map}
-use Rattle.snp_model.specs.declared.access.Place.{Place}
 use Rattle.snp_model.specs.declared.access.Verdict.{Verdict}
 use Rattle.snp_model.specs.declared.access.Verdict.TheVariants.{Pass, Hidden, Fault}
 use Rattle.snp_model.specs.declared.entry.PageSize.{PageSize}
@@ -15,28 +14,25 @@ use Rattle.snp_model.specs.declared.event.Refusal.{Refusal}
 use Rattle.snp_model.specs.declared.item.Item.{Item}
 use Rattle.snp_model.specs.declared.item.Item.TheVariants as items
 use Rattle.snp_model.specs.declared.item.Op.{Op}
-use Rattle.snp_model.specs.declared.item.Op.TheVariants.{Load}
 use Rattle.snp_model.specs.declared.scenario.Role.{Role}
 use Rattle.snp_model.specs.declared.scenario.Role.TheVariants.{Cpu}
 use Rattle.snp_model.specs.declared.walk.Lookup.{Lookup}
 use Rattle.snp_model.specs.declared.walk.Need.{Need}
 use Rattle.snp_model.specs.declared.walk.Need.TheVariants as needs
-use Rattle.snp_model.specs.Accesses.{guest_verdict}
 use Rattle.snp_model.specs.GuestWalk.{levels_of, is_canonical}
 use Rattle.snp_model.specs.HeldLocks.{PageTest, validate_test, adjust_test, IsWalkedLock, IsOneLock, AreInstructionLocks, AreItemLocks}
 use Rattle.snp_model.specs.InstructionStep.{refused_outcome, facts_of, instruction_lock, page_lookup, page_place, validate_begin, adjust_begin, validate_move, adjust_move, cpu_validate, cpu_adjust}
-use Rattle.snp_model.specs.Locks.{covers, page_lock, over_lock, view_of}
-use Rattle.snp_model.specs.Moves.{Move, Arrival, is_running, quiet_move, lock_move, begin_move, table_move, table_place, need_move, walked_move}
-use Rattle.snp_model.specs.OpenAttempts.{IsWalk, IsLockingWalk, HasLocked, IsAttempt}
+use Rattle.snp_model.specs.Locks.{covers, page_lock, view_of}
+use Rattle.snp_model.specs.Moves.{Arrival, is_running, begin_move, table_move, need_move, walked_move}
+use Rattle.snp_model.specs.OpenAttempts.{IsLockingWalk, IsAttempt}
 use Rattle.snp_model.specs.Opening.{asid_of}
-use Rattle.snp_model.specs.State.{Page, Pages, PageLock, Context, Contents, ActorPart, State}
+use Rattle.snp_model.specs.State.{Page, Pages, PageLock, Context, ActorPart, State}
 use Rattle.snp_model.specs.Step.{data_move, data_place}
 use Rattle.snp_model.specs.Validation.{validate_refusal, adjust_refusal, carry, validated_facts, validated_page, pages_validated, adjusted_facts, adjusted_page, pages_adjusted}
-use Rattle.snp_model.specs.Verdicts.{private_verdict, shared_verdict}
-use Rattle.snp_model.specs.Walking.{Processor, lookup_of, index_of, need_after, fault_of}
+use Rattle.snp_model.specs.Walking.{Processor, lookup_of, index_of, need_after}
 use Rattle.std.proofs.lemmas.List.{length_push}
 use Rattle.snp_model.proofs.HeldLocksLaws.{validate_freed, adjust_freed}
-use Rattle.snp_model.proofs.LockLaws.{IsFree, page_free}
+use Rattle.snp_model.proofs.LockLaws.{page_free}
 use Rattle.snp_model.proofs.LockedItems.{no_outcome, first_lock, over_firm, beside_lock}
 use Rattle.snp_model.proofs.LockedMoves.{IsFirm, Stands, MoveLocks, quiet_locks, ended_locks, access_locks, lock_locks, memory_locks, same_whole}
 use Rattle.snp_model.proofs.OpenAttemptsLaws.{locked_need, arrived_move}
