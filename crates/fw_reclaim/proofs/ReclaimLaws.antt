@@ -1,5 +1,5 @@
 -- Pages that are taken back as a whole.
-use Rattle.std.proofs.Common.{◌≡◌, ◌≢◌, ℕ, ◌+◌, ◌-◌, ◌*◌, ◌/◌, ◌%◌, ◌<◌, ◌≤◌, ◌==◌, Bool, true, false, not, if◌then◌else◌, List, [], length, get_or, set, replicate, refl, sym, ap, ◌∙◌, inl, inr, ◌⊎◌, arith, length-set}
+use Rattle.std.proofs.Common.{◌≡◌, ◌≢◌, ℕ, ◌+◌, ◌-◌, ◌*◌, ◌/◌, ◌%◌, ◌<◌, ◌≤◌, ◌==◌, Bool, true, false, not, if◌then◌else◌, List, [], length, replicate, refl, sym, ap, ◌∙◌, inl, inr, ◌⊎◌, arith}
 use Rattle.std.proofs.lemmas.Bool.{cases_eq, cases_lt, cond-true, cond-false, eq-eqb, ne_eqb}
 use Rattle.std.proofs.lemmas.List.{get_or-set_same, get_or-set_other, get_or_past}
 use Rattle.snp_model.specs.declared.entry.Kind.{Kind}
@@ -12,12 +12,12 @@ use Rattle.snp_model.specs.declared.firmware.PageState.TheVariants as states
 use Rattle.snp_model.specs.Entries.{Entries, IsTable, facts_at, facts_within, region_pages}
 use Rattle.snp_model.specs.Facts.{frames_in, page_base}
 use Rattle.snp_model.specs.FirmwareCommits.{given_back_facts, gpn_from_zero, reclaim_facts, reclaimed_as, reclaimed_page, released}
-use Rattle.snp_model.specs.Locks.{over, over_lock, page_lock}
+use Rattle.snp_model.specs.Locks.{over_lock, page_lock}
 use Rattle.snp_model.specs.PageStates.{firmware_state, state_of}
 use Rattle.snp_model.specs.RegionWords.{page_at, page_set}
 use Rattle.snp_model.specs.State.{Page, zero_words}
 use Rattle.snp_model.specs.Verdicts.{is_large}
-use Rattle.snp_model.proofs.EntriesLaws.{IsOfPage, over_alike, over_in, over_is, over_out}
+use Rattle.snp_model.proofs.EntriesLaws.{IsOfPage, over_alike, over_is}
 use Rattle.snp_model.proofs.RegionPagesLaws.{InPage, entry_over, frame_within}
 
 -- ---- words

@@ -4,7 +4,7 @@ use Rattle.std.proofs.lemmas.Bool.{cond-true, cond-false, false_from_ne_true}
 use Rattle.std.proofs.lemmas.Slice.Eq.{bytes_eq-Decides}
 use Rattle.snp_model.specs.declared.event.FwRefusal.TheVariants.{BadTag}
 use Rattle.snp_model.specs.declared.firmware.MetaEntry.{MetaEntry}
-use Rattle.snp_model.specs.Gcm.{plain, seal, tag}
+use Rattle.snp_model.specs.Gcm.{plain, tag}
 use Rattle.snp_model.specs.Measurement.{page_bytes}
 use Rattle.snp_model.specs.Metadata.{aad_of, found_tag, iv_of, opened, opened_words, words_of_bytes}
 use Rattle.snp_model.specs.State.{Context}

@@ -7,6 +7,8 @@ mod metadata;
 mod ownership;
 mod pages;
 mod sealing;
+#[cfg(test)]
+mod tests;
 
 pub use metadata::entry_test;
 pub use ownership::owned;

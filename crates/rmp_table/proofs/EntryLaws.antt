@@ -1,9 +1,8 @@
 -- What is known of the entries that a region keeps.
-use Rattle.std.proofs.Common.{◌≡◌, ℕ, zero, suc, ◌+◌, ◌-◌, ◌*◌, ◌/◌, ◌%◌, ◌<◌, ◌≤◌, true, false, List, [], ◌∷◌, length, get_or, set, map, replicate, Option, Some, None, Result, Err, refl, sym, subst, ap, ◌∙◌, inl, inr, ◌⊎◌, IfSome, arith, length-set}
+use Rattle.std.proofs.Common.{◌≡◌, ℕ, zero, suc, ◌+◌, ◌-◌, ◌*◌, ◌/◌, ◌%◌, ◌<◌, ◌≤◌, true, List, [], ◌∷◌, length, get_or, set, map, replicate, Option, Some, None, Result, Err, refl, sym, subst, ap, ◌∙◌, inl, inr, ◌⊎◌, IfSome, arith, length-set}
 use Rattle.std.specs.List.{range_with_len}
 use Rattle.std.specs.Option.{option_or}
-use Rattle.std.proofs.lemmas.Bool.{cases_Bool, cases_eq, cases_lt, cond-true, cond-false}
-use Rattle.std.proofs.lemmas.Bool.Decides.{nat_tests}
+use Rattle.std.proofs.lemmas.Bool.{cases_eq, cases_lt}
 use Rattle.std.proofs.lemmas.List.{get_or-set_same, get_or-set_other, length-replicate, get_or-replicate, get_or_past, length-map, get_or-map}
 use Rattle.std.proofs.lemmas.List.FromFn.{length-map-range_with_len, get_or-map-range_with_len}
 use Rattle.snp_model.specs.declared.entry.RmpEntry.{RmpEntry}
@@ -12,7 +11,7 @@ use Rattle.snp_model.specs.declared.entry.PageSize.TheVariants.{Small, Large}
 use Rattle.snp_model.specs.declared.event.InUse.{InUse}
 use Rattle.snp_model.specs.Facts.{free_entry, frames_in, page_base}
 use Rattle.snp_model.specs.Entries.{Entries, IsOnePage, IsRegionEntry, IsTable, facts_at, facts_within, holder_at, released, with_entry, with_lock, without_locks}
-use Rattle.snp_model.specs.Locks.{in_range, over, page_lock, range_holder, range_lock}
+use Rattle.snp_model.specs.Locks.{over, page_lock, range_holder, range_lock}
 use Rattle.snp_model.specs.RmpUpdate.{smashed_facts}
 use Rattle.snp_model.proofs.EntriesLaws.{over_is, within_first}
 use Rattle.rmp_table.specs.Stored.{AreStored, FitSize, IsHead, facts_by, head_of}

@@ -11,7 +11,7 @@ use snp_model::{InUse, Refusal, RmpEntry};
 /// The region that PSMASH names, in a memory of so many frames. Status 1 where its frame is outside memory or the
 /// first of no region.
 pub fn smash_region(frame: u64, frames: u32) -> Result<u32, u8>
-    ensures { result ≡ region_answer (is_bad_smash frames frame) frame }
+    ensures region { result ≡ region_answer (is_bad_smash frames frame) frame }
 {
     if is_bad_smash(frame, frames) {
         Err(1)

@@ -1,8 +1,5 @@
-use Rattle.std.proofs.Common.{◌≡◌, ◌∙◌, ◌<◌, ℕ, List, ap, length, arith, length-set}
-use Rattle.snp_model.specs.declared.entry.PageSize.{PageSize}
-use Rattle.snp_model.specs.Locks.{over_lock, page_lock}
+use Rattle.std.proofs.Common.{◌∙◌, ℕ, List, ap, length, arith, length-set}
 use Rattle.snp_model.specs.RegionWords.{page_at}
-use Rattle.snp_model.specs.State.{zero_words}
 use Rattle.fw_reclaim.proofs.ReclaimLaws.{by_size, emptied_large, emptied_small, zeros_more}
 use Rattle.fw_reclaim.proofs.reclaim.empty.Goals as goal
 

@@ -1,4 +1,4 @@
-use Rattle.std.proofs.Common.{◌≡◌, ◌∙◌, ap}
+use Rattle.std.proofs.Common.{◌∙◌, ap}
 use Rattle.snp_model.specs.FirmwareCommits.{given_back_facts}
 use Rattle.snp_model.proofs.EntriesLaws.{page_changed}
 use Rattle.fw_reclaim.proofs.ReclaimLaws.{given_back_of_page}

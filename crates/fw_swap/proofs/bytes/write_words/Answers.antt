@@ -1,4 +1,4 @@
-use Rattle.std.proofs.Common.{◌≡◌, ◌∙◌, ◌+◌, ◌-◌, ◌*◌, ℕ, List, sym, ap, take, rules, refl, arith, length-set}
+use Rattle.std.proofs.Common.{◌≡◌, ◌∙◌, ◌+◌, ◌-◌, ◌*◌, ℕ, sym, ap, take, rules, refl, arith, length-set}
 use Rattle.snp_model.specs.Metadata.{first_words}
 use Rattle.snp_model.proofs.PageBytesLaws.{first_words_all, words_more}
 use Rattle.fw_swap.proofs.bytes.write_words.Goals as goal

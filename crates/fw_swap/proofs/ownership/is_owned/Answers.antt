@@ -1,4 +1,4 @@
-use Rattle.std.proofs.Common.{◌≡◌, ◌∙◌, ℕ, ◌==◌, Bool, true, false, not, ◌||◌, get_or, ◌∷◌, [], refl, sym, ap}
+use Rattle.std.proofs.Common.{◌∙◌, ℕ, ◌==◌, Bool, not, ◌||◌, get_or, ◌∷◌, [], refl, sym, ap}
 use Rattle.std.specs.Int.{w16, from_le_bytes}
 use Rattle.std.proofs.lemmas.Bool.{eq-eqb, ne_eqb}
 use Rattle.snp_model.proofs.MetadataLaws.{owned_by_first}

@@ -1,4 +1,4 @@
-use Rattle.std.proofs.Common.{◌≡◌, ◌∙◌, Bool, true, false, sym, arith, below_more, rules}
+use Rattle.std.proofs.Common.{◌≡◌, ◌∙◌, false, sym, arith, below_more, rules}
 use Rattle.std.proofs.lemmas.Bool.{false≢true}
 use Rattle.snp_model.specs.Metadata.{entry_at, is_owned}
 use Rattle.snp_model.proofs.MetadataLaws.{entry_owned, owned_all, owned_at, owned_entry, owned_not}
