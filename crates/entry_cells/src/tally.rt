@@ -1,5 +1,5 @@
 //! The smallest use of cells, for tests: a journal whose entries each name a cell, and values that count the entries of
-//! their cells.
+//! their cells. It stands beside the tests, since wrong bodies are tried on code that isn't a test's.
 ghost use Rattle.std.specs.Prelude.{◌≡◌, ◌<◌, ◌++◌, ◌∷◌, []};
 ghost use Rattle.std.specs.Bool.{OnTrue, OnFalse};
 ghost use Rattle.entry_cells.specs.Counting.{named, IsFree, HoldsOnly};
