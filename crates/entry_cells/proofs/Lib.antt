@@ -3,3 +3,5 @@ pub mod Settling
 pub mod StepLaws
 pub mod ComingLaws
 pub mod PassLaws
+pub mod CountingLaws
+pub mod TestLaws

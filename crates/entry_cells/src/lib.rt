@@ -10,6 +10,9 @@ mod journal;
 mod plays;
 mod steps;
 mod table;
+mod tally;
+#[cfg(test)]
+mod tests;
 
 pub use board::{Absorbed, Refusal, View};
 pub use journal::{Journal, Kept};
