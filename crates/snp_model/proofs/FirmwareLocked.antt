@@ -28,13 +28,14 @@ use Rattle.snp_model.specs.FirmwareCommits.{at_frame, at_guest, context_facts, l
 use Rattle.snp_model.specs.FirmwareLocks.{guest_refusal, frame_refusal, context_refusal, page_refusal, page_extra, unless_held, takes_large}
 use Rattle.snp_model.specs.FirmwareStep.{Phase, context_phase, pages_phase, refused, context_taken, take_context, command_asid, lock_refusal, take_page, computed_move, nothing_made, first_lock, pages_moved, pages_after, contexts_after, commit_move, phase_move, firmware_move}
 use Rattle.snp_model.specs.HeldLocks.{IsCommandLock, AreCommandLocks, AreItemLocks}
+use Rattle.snp_model.specs.KeptLocks.{actor_at}
 use Rattle.snp_model.specs.Locks.{over_lock, covers, locks_frame, locks_context, page_lock, context_holder_from, view_of}
 use Rattle.snp_model.specs.PageStates.{state_of}
 use Rattle.snp_model.specs.Sealing.{What, GuestPage, MetadataPage, Slot, OfEntry, OfRoot, Sealing, sealing_of, compute_of, given_up, brought_back, with_slot_entry, pages_out, pages_in}
 use Rattle.snp_model.specs.State.{Page, Pages, PageLock, Context, Contexts, Computed, ActorPart, State}
 use Rattle.snp_model.specs.Verdicts.{is_large}
 use Rattle.snp_model.proofs.HeldLocksLaws.{lock_freed, guest_context_freed}
-use Rattle.snp_model.proofs.LockLaws.{actor_at, page_free, own_covered, not_true, context_idle, first_none, others_none}
+use Rattle.snp_model.proofs.LockLaws.{page_free, own_covered, not_true, context_idle, first_none, others_none}
 use Rattle.snp_model.proofs.LockedMoves.{IsFirm, firm_itself, Stands, MoveLocks, ended_locks, lock_locks, same_whole}
 use Rattle.snp_model.proofs.TestedLaws.{let_through}
 

@@ -7,12 +7,13 @@ use Rattle.snp_model.specs.declared.entry.PageSize.TheVariants.{Small, Large}
 use Rattle.snp_model.specs.declared.entry.RmpEntry.{RmpEntry}
 use Rattle.snp_model.specs.declared.item.Update.{Update}
 use Rattle.snp_model.specs.Facts.{free_entry, page_base}
+use Rattle.snp_model.specs.KeptLocks.{AreOfOneRegion, AreWholePages}
 use Rattle.snp_model.specs.Locks.{over_lock, covers, page_lock, range_lock}
 use Rattle.snp_model.specs.RmpUpdate.{makes_immutable, immutable_kind, assigned_facts, updated_facts, pages_updated, pages_smashed}
 use Rattle.snp_model.specs.Shapes.{AreOfOnePage}
 use Rattle.snp_model.specs.State.{Pages, PageLock}
 use Rattle.snp_model.specs.Validation.{carry, validated_facts, validated_page, pages_validated, adjusted_facts, adjusted_page, pages_adjusted}
-use Rattle.snp_model.proofs.LockLaws.{AreOfOneRegion, AreWholePages, small_not_large, small_range_covered, region_covered, page_region, region_page}
+use Rattle.snp_model.proofs.LockLaws.{small_not_large, small_range_covered, region_covered, page_region, region_page}
 use Rattle.snp_model.proofs.LockedItems.{size_inside, small_after, by_range}
 
 -- every page of 2 MB is whole

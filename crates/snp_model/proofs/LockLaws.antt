@@ -7,26 +7,9 @@ use Rattle.std.specs.Option.{option_or}
 use Rattle.snp_model.specs.declared.entry.PageSize.{PageSize}
 use Rattle.snp_model.specs.declared.entry.PageSize.TheVariants.{Small, Large}
 use Rattle.snp_model.specs.Facts.{frames_in}
+use Rattle.snp_model.specs.KeptLocks.{actor_at, AreOfOneRegion, AreWholePages, HaveOneHolder}
 use Rattle.snp_model.specs.Locks.{in_range, covers, locks_frame, locks_context, page_lock, range_lock, holder_from, range_holder}
 use Rattle.snp_model.specs.State.{Pages, PageLock, ActorPart, idle_part}
-
--- the actor at a place of the list
-abbrev pub actor_at : List ActorPart → ℕ → ActorPart
-actor_at actors place = get_or actors place idle_part
-
--- two frames of one region
-abbrev pub AreOfOneRegion : ℕ → ℕ → Type 0
-AreOfOneRegion f g = f / 512 ≡ g / 512
-
--- where a frame is in a page of 2 MB, so is every frame of its region
-pub record AreWholePages (pages : Pages) : Type 0 where
-  pub large : (f g : ℕ) → (pages f).facts.size ≡ Large → AreOfOneRegion f g → (pages g).facts.size ≡ Large
-
--- no frame and no context has two holders of its lock, by their places, and a page of 2 MB is locked as a whole
-pub record HaveOneHolder (pages : Pages) (actors : List ActorPart) : Type 0 where
-  pub pages_by_one : (j k frame : ℕ) → locks_frame frame (actor_at actors j) ≡ true → locks_frame frame (actor_at actors k) ≡ true → j ≡ k
-  pub contexts_by_one : (j k guest : ℕ) → locks_context guest (actor_at actors j) ≡ true → locks_context guest (actor_at actors k) ≡ true → j ≡ k
-  pub whole : (k f g : ℕ) → locks_frame f (actor_at actors k) ≡ true → (pages f).facts.size ≡ Large → AreOfOneRegion f g → locks_frame g (actor_at actors k) ≡ true
 
 pub not_true : (b : Bool) → (b ≡ true → ⊥) → b ≡ false
 not_true true none = absurd (none refl)

@@ -13,13 +13,14 @@ use Rattle.snp_model.specs.declared.item.Update.{Update}
 use Rattle.snp_model.specs.declared.scenario.Role.TheVariants.{Host}
 use Rattle.snp_model.specs.Facts.{free_entry}
 use Rattle.snp_model.specs.InstructionStep.{refused_outcome, facts_of, update_move, smash_move}
+use Rattle.snp_model.specs.KeptLocks.{AreWholePages}
 use Rattle.snp_model.specs.Locks.{over, covers, locks_frame, page_lock, range_lock, view_of}
 use Rattle.snp_model.specs.HeldLocks.{IsUpdateLock, IsSmashLock, IsOneLock, AreInstructionLocks, AreItemLocks}
 use Rattle.snp_model.specs.RmpUpdate.{is_bad_update, overlaps, update_lock, update_refusal, makes_immutable, immutable_kind, assigned_facts, updated_facts, updated_page, pages_updated, smash_refusal, smashed_page, pages_smashed}
 use Rattle.snp_model.specs.State.{Page, Pages, PageLock, ActorPart, State}
 use Rattle.snp_model.specs.Verdicts.{is_large}
 use Rattle.snp_model.proofs.HeldLocksLaws.{update_freed, smash_freed}
-use Rattle.snp_model.proofs.LockLaws.{AreWholePages, page_free, range_free, small_range_covered, region_covered, page_region, region_page, small_not_large}
+use Rattle.snp_model.proofs.LockLaws.{page_free, range_free, small_range_covered, region_covered, page_region, region_page, small_not_large}
 use Rattle.snp_model.proofs.LockedMoves.{IsFirm, Stands, MoveLocks, lock_locks, memory_locks, firm_itself}
 use Rattle.snp_model.proofs.RangeLaws.{over_beside}
 use Rattle.snp_model.proofs.TestedLaws.{update_passes, smash_passes, first_fails}

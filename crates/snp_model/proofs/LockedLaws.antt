@@ -32,6 +32,7 @@ use Rattle.snp_model.specs.FirmwareLocks.{guest_refusal, context_refusal, frame_
 use Rattle.snp_model.specs.FirmwareStep.{command_asid, lock_refusal}
 use Rattle.snp_model.specs.HeldLocks.{PageTest, IsUpdateLock, IsSmashLock, IsWalkedLock, AreCommandLocks, IsOneLock, AreInstructionLocks, AreItemLocks, AreTested}
 use Rattle.snp_model.specs.InstructionStep.{facts_of, page_place}
+use Rattle.snp_model.specs.KeptLocks.{actor_at, AreWholePages, HaveOneHolder, IsTestedAt, KeepsLocks}
 use Rattle.snp_model.specs.Locks.{covers, locks_frame, locks_context, page_lock, range_lock, view_of}
 use Rattle.snp_model.specs.Metadata.{entry_at}
 use Rattle.snp_model.specs.Moves.{Move}
@@ -45,7 +46,7 @@ use Rattle.snp_model.specs.Verdicts.{is_large}
 use Rattle.snp_model.specs.Walking.{Processor}
 use Rattle.snp_model.proofs.FirmwareLocked.{covers_at, held_context, firmware_locks}
 use Rattle.snp_model.proofs.InstructionLocality.{update_range_same}
-use Rattle.snp_model.proofs.LockLaws.{actor_at, AreWholePages, HaveOneHolder, Grows, exclusive_after, own_covered, not_true, first_none, others_none}
+use Rattle.snp_model.proofs.LockLaws.{Grows, exclusive_after, own_covered, not_true, first_none, others_none}
 use Rattle.snp_model.proofs.LockedItems.{update_locks, smash_locks}
 use Rattle.snp_model.proofs.LockedMoves.{IsFirm, Stands, MoveLocks, ended_locks, access_locks}
 use Rattle.snp_model.proofs.LockedWalks.{cpu_access_locks, validate_locks, adjust_locks}
@@ -295,16 +296,6 @@ item_kept frames guests old new Firmware (items.Rmpupdate update) made standing 
 item_kept frames guests old new Firmware (items.Psmash frame) made standing firm contexts is = is
 item_kept frames guests old new Firmware (items.Firmware command) made standing firm contexts is = command_kept frames guests old new command standing firm contexts is
 item_kept frames guests old new Firmware (items.Skip count test) made standing firm contexts is = is
-
--- the open attempt of an actor, in a memory
-abbrev pub IsTestedAt : ℕ → List GuestSpec → Contents → ActorPart → Type 0
-IsTestedAt frames guests contents part = AreItemLocks frames guests contents part.role (line_at part.script part.item).item part.deeds part.standing
-
--- what a state keeps of locks
-pub record KeepsLocks (m : State) : Type 0 where
-  pub whole : AreWholePages m.contents.pages
-  pub one : HaveOneHolder m.contents.pages m.actors
-  pub tested : (place : ℕ) → AreTested m (actor_at m.actors place)
 
 -- before an event of an actor
 stands_at : (m : State) (actor : ℕ) → KeepsLocks m → IsWalking m.frames (part_of m actor) → Stands m (part_of m actor) (part_of m actor).role (line_at (part_of m actor).script (part_of m actor).item).item

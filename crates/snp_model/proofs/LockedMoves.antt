@@ -15,6 +15,7 @@ use Rattle.snp_model.specs.declared.item.Item.{Item}
 use Rattle.snp_model.specs.declared.item.Op.{Op}
 use Rattle.snp_model.specs.declared.item.Op.TheVariants.{Load, Store, Swap, Compare, Xor}
 use Rattle.snp_model.specs.declared.scenario.Role.{Role}
+use Rattle.snp_model.specs.KeptLocks.{actor_at, AreOfOneRegion, AreWholePages, HaveOneHolder}
 use Rattle.snp_model.specs.Locks.{covers, locks_frame, locks_context}
 use Rattle.snp_model.specs.HeldLocks.{AreItemLocks}
 use Rattle.snp_model.specs.OpenAttempts.{IsAttempt}
@@ -23,7 +24,7 @@ use Rattle.snp_model.specs.State.{Page, Pages, PageLock, ActorPart, State, with_
 use Rattle.snp_model.specs.Operations.{outcome_of}
 use Rattle.snp_model.specs.Step.{access_move, pages_after}
 use Rattle.snp_model.proofs.CoreLaws.{with_word_facts, with_word_other}
-use Rattle.snp_model.proofs.LockLaws.{actor_at, AreOfOneRegion, AreWholePages, HaveOneHolder, IsUnlocked, IsFree}
+use Rattle.snp_model.proofs.LockLaws.{IsUnlocked, IsFree}
 
 -- a frame that others have locked is firm: its facts stay, and so do its words where it is assigned and immutable
 pub record IsFirm (new old : Page) : Type 0 where

@@ -11,6 +11,7 @@ use Rattle.snp_model.specs.declared.scenario.Role.{Role}
 use Rattle.snp_model.specs.declared.scenario.Role.TheVariants.{Host}
 use Rattle.snp_model.specs.declared.scenario.Scenario.{Scenario}
 use Rattle.snp_model.specs.HeldLocks.{AreExclusive, HasThroughout, StaysAs, AreTested, AreLocked}
+use Rattle.snp_model.specs.KeptLocks.{actor_at, AreWholePages, IsTestedAt, KeepsLocks}
 use Rattle.snp_model.specs.Locks.{locks_frame, locks_context}
 use Rattle.snp_model.specs.Moves.{Move}
 use Rattle.snp_model.specs.OpenAttempts.{IsWalking, AreWalking}
@@ -19,8 +20,8 @@ use Rattle.snp_model.specs.Run.{state_from, state_after, IsDefined, IsDefinedFro
 use Rattle.snp_model.specs.Shapes.{AreShaped}
 use Rattle.snp_model.specs.State.{Page, Pages, Contents, ActorPart, State, part_of, idle_part, IsUnfinished}
 use Rattle.snp_model.specs.Step.{part_after, after}
-use Rattle.snp_model.proofs.LockLaws.{actor_at, AreWholePages, not_true}
-use Rattle.snp_model.proofs.LockedLaws.{IsTestedAt, KeepsLocks, step_keeps_locks, move_at, move_locks, nothing_tested}
+use Rattle.snp_model.proofs.LockLaws.{not_true}
+use Rattle.snp_model.proofs.LockedLaws.{step_keeps_locks, move_at, move_locks, nothing_tested}
 use Rattle.snp_model.proofs.LockedMoves.{IsFirm, firm_itself, MoveLocks}
 use Rattle.snp_model.proofs.OpenAttemptsLaws.{after_walking, opening_walking}
 use Rattle.snp_model.proofs.RunLaws.{unfinished_at, after_part}

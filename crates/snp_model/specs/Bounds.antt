@@ -3,6 +3,7 @@ use Rattle.std.specs.Prelude.{◌≡◌, ℕ, ◌*◌, ◌%◌, ◌^◌, ◌<◌
 use Rattle.snp_model.specs.declared.item.Item.{Item}
 use Rattle.snp_model.specs.declared.item.Item.TheVariants as items
 use Rattle.snp_model.specs.declared.item.Line.{Line}
+use Rattle.snp_model.specs.declared.item.Update.{Update}
 use Rattle.snp_model.specs.declared.scenario.Paging.{Paging}
 use Rattle.snp_model.specs.declared.scenario.Paging.TheVariants.{Flat, Four, Five}
 use Rattle.snp_model.specs.declared.scenario.Role.{Role}
@@ -48,13 +49,17 @@ IsCpuItem (items.Psmash frame) = ⊥
 IsCpuItem (items.Firmware command) = ⊥
 IsCpuItem (items.Skip count test) = IsSkip count
 
--- an item of a hypervisor processor; an access has such an address in memory
+-- the operands of RMPUPDATE, whose frame is any number
+abbrev pub IsUpdate : Update → Type 0
+IsUpdate update = (update.asid < 1024) × (update.gpn < 2 ^ 36)
+
+-- an item of a hypervisor processor; an access has such an address in memory, and the frame of PSMASH is any number
 abbrev pub IsHostItem : ℕ → Item → Type 0
 IsHostItem frames (items.Access address op) = (address < 4096 * frames) × (address % 8 ≡ 0)
 IsHostItem frames (items.Pvalidate address size validate) = ⊥
 IsHostItem frames (items.Rmpadjust address size target mask vmsa) = ⊥
-IsHostItem frames (items.Rmpupdate update) = ⊥
-IsHostItem frames (items.Psmash frame) = ⊥
+IsHostItem frames (items.Rmpupdate update) = IsUpdate update
+IsHostItem frames (items.Psmash frame) = Unit {0}
 IsHostItem frames (items.Firmware command) = ⊥
 IsHostItem frames (items.Skip count test) = IsSkip count
 

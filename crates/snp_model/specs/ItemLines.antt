@@ -1,5 +1,7 @@
 -- The lines of items, a row for each form, by the role of their actor. The texts are this project's own.
-use Rattle.std.specs.Prelude.{ℕ, ◌*◌, if◌then◌else◌, List, Result, Ok, Err, codes, bytes_eq}
+use Rattle.std.specs.Prelude.{ℕ, ◌+◌, ◌*◌, ◌^◌, ◌==◌, ◌||◌, if◌then◌else◌, Bool, List, Result, Ok, Err, codes, bytes_eq, length}
+use Rattle.snp_model.specs.declared.entry.PageSize.{PageSize}
+use Rattle.snp_model.specs.declared.entry.PageSize.TheVariants.{Small, Large}
 use Rattle.snp_model.specs.declared.reading.Reason.{Reason}
 use Rattle.snp_model.specs.declared.reading.Reason.TheVariants.{Form}
 use Rattle.snp_model.specs.declared.scenario.Role.{Role}
@@ -9,7 +11,8 @@ use Rattle.snp_model.specs.declared.item.Op.TheVariants.{Load, Store, Swap, Comp
 use Rattle.snp_model.specs.declared.item.SkipTest.{SkipTest}
 use Rattle.snp_model.specs.declared.item.SkipTest.TheVariants.{Good, Bad, Value}
 use Rattle.snp_model.specs.declared.item.Item.{Item}
-use Rattle.snp_model.specs.declared.item.Item.TheVariants.{Access, Skip}
+use Rattle.snp_model.specs.declared.item.Item.TheVariants.{Access, Psmash, Rmpupdate, Skip}
+use Rattle.snp_model.specs.declared.item.Update.{Update}
 use Rattle.snp_model.specs.Lines.{◌>>=◌, ◌>>◌, words_of, word, is_plain, is_row, fixed, number, ranged, below, multiple}
 
 -- an item without retries
@@ -99,10 +102,64 @@ access_item role frames ws =
     else if is_row ws (codes "xor") 3 then xor_row role frames ws
     else skip_item ws
 
+-- the size of a page
+unfoldable pub size_word : List ℕ → Result PageSize Reason
+size_word w = if bytes_eq w (codes "4k") then Ok Small else if bytes_eq w (codes "2m") then Ok Large else Err Form
+
+-- 0 or 1
+unfoldable pub flag_word : List ℕ → Result Bool Reason
+flag_word w = do
+  flag ← below 2 w
+  Ok (flag == 1)
+
+-- whether a line is of a row that retries may end: its first word is this, with so many words, and two more where it ends with `retry N`
+abbrev pub is_retry_row : List (List ℕ) → List ℕ → ℕ → Bool
+is_retry_row ws name count = is_row ws name count || is_row ws name (count + 2)
+
+-- how many times an item is tried again: none where the row ends at its own words, and else `retry N`
+unfoldable pub retries_word : List (List ℕ) → ℕ → Result ℕ Reason
+retries_word ws count =
+    if length ws == count then Ok 0
+    else (do
+      fixed (word ws count) (codes "retry")
+      ranged 1 255 (word ws (count + 1)))
+
+-- `F S B A P I`: the operands of RMPUPDATE
+unfoldable pub update_operands : List (List ℕ) → Result Update Reason
+update_operands ws = do
+  frame ← number (word ws 1)
+  size ← size_word (word ws 2)
+  assigned ← flag_word (word ws 3)
+  asid ← below 1024 (word ws 4)
+  gpn ← below (2 ^ 36) (word ws 5)
+  immutable ← flag_word (word ws 6)
+  Ok (record { frame = frame; size = size; assigned = assigned; asid = asid; gpn = gpn; immutable = immutable })
+
+-- `rmpupdate F S B A P I`, `rmpupdate F S B A P I retry N`
+unfoldable pub update_row : List (List ℕ) → Result Line Reason
+update_row ws = do
+  update ← update_operands ws
+  retries ← retries_word ws 7
+  Ok (record { item = Rmpupdate update; retries = retries })
+
+-- `psmash F`, `psmash F retry N`
+unfoldable pub smash_row : List (List ℕ) → Result Line Reason
+smash_row ws = do
+  frame ← number (word ws 1)
+  retries ← retries_word ws 2
+  Ok (record { item = Psmash frame; retries = retries })
+
+-- the items of a hypervisor processor
+unfoldable pub host_item : ℕ → List (List ℕ) → Result Line Reason
+host_item frames ws =
+    if is_retry_row ws (codes "rmpupdate") 7 then update_row ws
+    else if is_retry_row ws (codes "psmash") 2 then smash_row ws
+    else access_item Host frames ws
+
 -- the words of an item of an actor with this role
 abbrev pub item_words : Role → ℕ → List (List ℕ) → Result Line Reason
 item_words (Cpu guest vmpl npt paging) frames ws = access_item (Cpu guest vmpl npt paging) frames ws
-item_words Host frames ws = access_item Host frames ws
+item_words Host frames ws = host_item frames ws
 item_words Firmware frames ws = skip_item ws
 
 -- a line with an item

@@ -1,10 +1,10 @@
 -- What an actor's own part keeps through every run of a valid scenario: all that its next event rests on, beside the parts of memory that it touches. This project's own.
-use Rattle.std.specs.Prelude.{◌≡◌, ℕ, List, All, length}
+use Rattle.std.specs.Prelude.{ℕ, List, All, length}
 use Rattle.std.specs.List.{AllByRecursion}
 use Rattle.snp_model.specs.declared.scenario.GuestSpec.{GuestSpec}
 use Rattle.snp_model.specs.Bounds.{IsRole, IsLineOf}
 use Rattle.snp_model.specs.Room.{IsBounded}
-use Rattle.snp_model.specs.State.{ActorPart, State, nothing_taken}
+use Rattle.snp_model.specs.State.{ActorPart, State}
 
 -- an actor is ready for its next event, in a memory of so many frames and with these declared guests
 pub record IsReady (frames : ℕ) (guests : List GuestSpec) (part : ActorPart) : Type 0 where
@@ -14,8 +14,6 @@ pub record IsReady (frames : ℕ) (guests : List GuestSpec) (part : ActorPart) :
   pub script : AllByRecursion (IsLineOf frames part.role) part.script
   -- and its open attempt has made what its item calls for, which is not much
   pub bounded : IsBounded frames part
-  -- and it has taken no lock: no event of such an item takes one yet
-  pub unlocked : part.standing ≡ nothing_taken
 
 -- so each actor
 abbrev pub AreReady : State → Type 0

@@ -4,7 +4,7 @@ use Rattle.std.specs.List.{list_all, list_any, range_with_len}
 use Rattle.snp_model.specs.declared.reading.Reason.{Reason}
 use Rattle.snp_model.specs.declared.reading.Reason.TheVariants.{Form, Range, Guest, Repeat}
 use Rattle.snp_model.specs.declared.entry.PageSize.{PageSize}
-use Rattle.snp_model.specs.declared.entry.PageSize.TheVariants.{Small}
+use Rattle.snp_model.specs.declared.entry.PageSize.TheVariants.{Small, Large}
 use Rattle.snp_model.specs.declared.scenario.Scenario.{Scenario}
 use Rattle.snp_model.specs.declared.scenario.GuestSpec.{GuestSpec}
 use Rattle.snp_model.specs.declared.scenario.PageSpec.{PageSpec}
@@ -16,7 +16,9 @@ use Rattle.snp_model.specs.declared.scenario.Role.TheVariants.{Cpu, Host}
 use Rattle.snp_model.specs.declared.scenario.Paging.{Paging}
 use Rattle.snp_model.specs.declared.scenario.Paging.TheVariants.{Flat, Four, Five}
 use Rattle.snp_model.specs.declared.item.Line.{Line}
-use Rattle.snp_model.specs.Lines.{◌>>=◌, ◌>>◌, require, word, is_row, is_hex_digit, digit_value, decimal, cut_at, fixed, number, ranged, below}
+use Rattle.snp_model.specs.Facts.{frames_in}
+use Rattle.snp_model.specs.ItemLines.{size_word}
+use Rattle.snp_model.specs.Lines.{◌>>=◌, ◌>>◌, require, word, is_row, is_hex_digit, digit_value, decimal, cut_at, fixed, multiple, number, ranged, below}
 
 -- the frames of a scenario's memory
 abbrev pub frames_of : Scenario → ℕ
@@ -99,17 +101,23 @@ opened_of None = false
 unfoldable pub is_opened : List GuestSpec → ℕ → Bool
 is_opened guests guest = nat_lt 0 guest && opened_of (slice_get guests (guest - 1))
 
--- the size of a page
-unfoldable pub page_size : List ℕ → Result PageSize Reason
-page_size w = if bytes_eq w (codes "4k") then Ok Small else Err Form
+-- what the frame and the guest page number of a page are multiples of, by the word for its size
+abbrev pub page_unit : List ℕ → ℕ
+page_unit w = if bytes_eq w (codes "2m") then 512 else 1
 
 -- whether a page is validated
 unfoldable pub validity : List ℕ → Result Bool Reason
 validity w = if bytes_eq w (codes "valid") then Ok true else if bytes_eq w (codes "invalid") then Ok false else Err Form
 
+-- whether `count` numbers from `base` on and `more` numbers from `other` on have one in common; neither count is 0
+abbrev pub overlap : ℕ → ℕ → ℕ → ℕ → Bool
+overlap base count other more = nat_lt base (other + more) && nat_lt other (base + count)
+
 -- whether two pages have a frame, or a page number of one guest, in common
 abbrev pub collide : PageSpec → PageSpec → Bool
-collide page other = (page.frame == other.frame) || ((page.guest == other.guest) && (page.gpn == other.gpn))
+collide page other =
+    overlap page.frame (frames_in page.size) other.frame (frames_in other.size)
+    || ((page.guest == other.guest) && overlap page.gpn (frames_in page.size) other.gpn (frames_in other.size))
 
 -- a page that collides with none of these
 unfoldable pub apart : List PageSpec → PageSpec → Result PageSpec Reason
@@ -118,12 +126,14 @@ apart pages page = if list_any (collide page) pages then Err Repeat else Ok page
 -- `page F of G at P S V X Y Z`
 unfoldable pub page_row : Scenario → List (List ℕ) → Result PageSpec Reason
 page_row c ws = do
-  frame ← below (frames_of c) (word ws 1)
+  first_frame ← below (frames_of c) (word ws 1)
+  frame ← multiple (page_unit (word ws 6)) first_frame
   fixed (word ws 2) (codes "of")
   guest ← number (word ws 3)
   fixed (word ws 4) (codes "at")
-  gpn ← below (2 ^ 36) (word ws 5)
-  size ← page_size (word ws 6)
+  first_gpn ← below (2 ^ 36) (word ws 5)
+  gpn ← multiple (page_unit (word ws 6)) first_gpn
+  size ← size_word (word ws 6)
   valid ← validity (word ws 7)
   first ← below 16 (word ws 8)
   second ← below 16 (word ws 9)

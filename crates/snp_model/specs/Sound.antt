@@ -1,7 +1,7 @@
 -- The bounds that every scenario has which a text can say, as facts on its lists. They are this project's own.
-use Rattle.std.specs.Prelude.{◌≡◌, ℕ, ◌^◌, ◌<◌, ◌≤◌, ◌≢◌, true, List, [], ◌∷◌, length}
+use Rattle.std.specs.Prelude.{◌≡◌, ℕ, ◌%◌, ◌^◌, ◌<◌, ◌≤◌, ◌≢◌, true, List, [], ◌∷◌, length}
 use Rattle.std.specs.List.{AllByRecursion}
-use Rattle.snp_model.specs.declared.entry.PageSize.TheVariants.{Small}
+use Rattle.snp_model.specs.declared.entry.PageSize.TheVariants.{Large}
 use Rattle.snp_model.specs.declared.scenario.Scenario.{Scenario}
 use Rattle.snp_model.specs.declared.scenario.GuestSpec.{GuestSpec}
 use Rattle.snp_model.specs.declared.scenario.PageSpec.{PageSpec}
@@ -10,6 +10,8 @@ use Rattle.snp_model.specs.declared.scenario.Turn.{Turn}
 use Rattle.snp_model.specs.declared.scenario.Actor.{Actor}
 use Rattle.snp_model.specs.declared.reading.Quantity.TheVariants.{Regions, Guests, Actors, Attempts, Order}
 use Rattle.snp_model.specs.Bounds.{IsRole, IsLineOf}
+use Rattle.snp_model.specs.Facts.{frames_in}
+use Rattle.snp_model.specs.Locks.{in_range}
 use Rattle.snp_model.specs.Metadata.{AreBytes}
 use Rattle.snp_model.specs.ScenarioLines.{frames_of}
 use Rattle.snp_model.specs.Attempts.{attempts_of}
@@ -32,21 +34,25 @@ pub record IsGuest (guest : GuestSpec) : Type 0 where
 abbrev pub AsidsDiffer : GuestSpec → GuestSpec → Type 0
 AsidsDiffer guest other = guest.asid ≢ other.asid
 
--- a page in a memory of so many frames, of one of so many guests
+-- a page in a memory of so many frames, of one of so many guests; one of 2 MB begins at a multiple of 512, and so do its guest page numbers
 pub record IsPage (frames guests : ℕ) (page : PageSpec) : Type 0 where
   pub frame : page.frame < frames
   pub guest_some : 0 < page.guest
   pub guest_most : page.guest ≤ guests
   pub gpn : page.gpn < 2 ^ 36
-  pub size : page.size ≡ Small
+  pub aligned : page.size ≡ Large → (page.frame % 512 ≡ 0) × (page.gpn % 512 ≡ 0)
   pub perms_three : length page.perms ≡ 3
   pub perms : AllByRecursion (λ p. p < 16) page.perms
 
+-- two pages have no frame in common
 abbrev pub FramesDiffer : PageSpec → PageSpec → Type 0
-FramesDiffer page other = page.frame ≢ other.frame
+FramesDiffer page other =
+    (frame : ℕ) → in_range page.frame (frames_in page.size) frame ≡ true → in_range other.frame (frames_in other.size) frame ≡ true → ⊥
 
+-- nor a guest page number of one guest
 abbrev pub GpnsDiffer : PageSpec → PageSpec → Type 0
-GpnsDiffer page other = page.guest ≡ other.guest → page.gpn ≢ other.gpn
+GpnsDiffer page other =
+    page.guest ≡ other.guest → (gpn : ℕ) → in_range page.gpn (frames_in page.size) gpn ≡ true → in_range other.gpn (frames_in other.size) gpn ≡ true → ⊥
 
 -- a word of a memory of so many frames
 pub record IsWord (frames : ℕ) (word : WordSpec) : Type 0 where
