@@ -42,7 +42,6 @@ pub mod RunLaws
 pub mod SealLaws
 pub mod ShapeLaws
 pub mod SoundLaws
-pub mod StandingLaws
 pub mod TestedLaws
 pub mod UpdateLaws
 pub mod UseLaws

@@ -1,5 +1,5 @@
 -- In every run of a sound scenario each actor is ready for its next event.
-use Rattle.std.proofs.Common.{◌≡◌, ℕ, zero, suc, ◌-◌, ◌*◌, ◌<◌, List, [], ◌∷◌, All, length, map, get_or, None, refl, sym, subst, arith}
+use Rattle.std.proofs.Common.{◌≡◌, ℕ, zero, suc, ◌-◌, ◌*◌, ◌<◌, List, [], ◌∷◌, All, length, map, get_or, sym, subst, arith}
 use Rattle.std.specs.List.{AllByRecursion}
 use Rattle.std.proofs.lemmas.List.Elements.{All-set}
 use Rattle.snp_model.specs.declared.item.Line.{Line}
@@ -13,11 +13,10 @@ use Rattle.snp_model.specs.Opening.{opening, opening_part}
 use Rattle.snp_model.specs.Ready.{IsReady, AreReady}
 use Rattle.snp_model.specs.Run.{state_from, state_after, IsDefinedFrom, IsDefined}
 use Rattle.snp_model.specs.Sound.{IsActor, IsSound}
-use Rattle.snp_model.specs.State.{ActorPart, State, View, part_of, idle_part, IsUnfinished, nothing_taken}
+use Rattle.snp_model.specs.State.{ActorPart, State, View, part_of, idle_part, IsUnfinished}
 use Rattle.snp_model.specs.Step.{after, line_at, step_of}
 use Rattle.snp_model.proofs.RoomLaws.{opening_part_bounded, step_bounded}
 use Rattle.snp_model.proofs.RunLaws.{step_keeps, unfinished_at}
-use Rattle.snp_model.proofs.StandingLaws.{step_unlocked, none_holds_frame, none_holds_context}
 
 -- a line at a place of a script
 pub line_is : (frames : ℕ) (role : Role) (script : List Line) → AllByRecursion (IsLineOf frames role) script → (k : ℕ) → k < length script → IsLineOf frames role (line_at script k)
@@ -41,7 +40,6 @@ step_ready frames guests part view ready has =
       role = subst (IsRole frames (length guests)) (sym keeps.role) ready.role;
       script = script_kept frames part.role _ part.script _ keeps.role keeps.script ready.script;
       bounded = step_bounded frames guests part view ready.bounded has;
-      unlocked = step_unlocked frames guests part view (ready_line frames guests part ready has).item ready.unlocked;
     }
 
 pub after_ready : (m : State) (actor : ℕ) → AreReady m → IsUnfinished m actor → AreReady (after m actor)
@@ -59,18 +57,12 @@ state_ready m (a ∷ s) ready d = state_ready (after m a) s (after_ready m a rea
 actors_ready : (frames : ℕ) (guests : List GuestSpec) (actors : List Actor) → AllByRecursion (IsActor frames (length guests)) actors
     → (k : ℕ) (d : ActorPart) → k < length (map opening_part actors) → IsReady frames guests (get_or (map opening_part actors) k d)
 actors_ready frames guests [] all k d within = absurd (omega arith)
-actors_ready frames guests (actor ∷ actors) all zero d within = record { role = all.0.role; script = all.0.script; bounded = opening_part_bounded frames actor; unlocked = refl }
+actors_ready frames guests (actor ∷ actors) all zero d within = record { role = all.0.role; script = all.0.script; bounded = opening_part_bounded frames actor }
 actors_ready frames guests (actor ∷ actors) all (suc k) d within = actors_ready frames guests actors all.1 k d (omega arith)
 
 pub opening_ready : (c : Scenario) → IsSound c → AreReady (opening c)
 unfolding opening
 opening_ready c sound = actors_ready (512 * c.regions) c.guests c.actors sound.actors
-
--- where each actor is ready, nothing is locked
-pub ready_unlocked : (m : State) → AreReady m → view_of m ≡ record { contents = m.contents; holder = λ _. None; context_holder = λ _. None }
-ready_unlocked m ready =
-    let unlocked : All (λ (part : ActorPart). part.standing ≡ nothing_taken) m.actors = λ k d within. (ready k d within).unlocked in
-    λ i. record { contents = m.contents; holder = λ frame. none_holds_frame 1 m.actors frame unlocked i; context_holder = λ guest. none_holds_context 1 m.actors guest unlocked i }
 
 -- in every run
 pub run_ready : (c : Scenario) (s : List ℕ) → IsSound c → IsDefined c s → AreReady (state_after c s)
