@@ -3,6 +3,7 @@ pub mod AttemptLaws
 pub mod Chains
 pub mod CipherLaws
 pub mod CommandLaws
+pub mod ContextLaws
 pub mod CoreLaws
 pub mod EntriesLaws
 pub mod FindingLaws
@@ -12,6 +13,7 @@ pub mod GctrLaws
 pub mod GuestMemoryLaws
 pub mod GuestReadsLaws
 pub mod HeldLocksLaws
+pub mod HolderLaws
 pub mod InstructionLocality
 pub mod LargePages
 pub mod LocalityLaws
