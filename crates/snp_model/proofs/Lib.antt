@@ -31,6 +31,7 @@ pub mod NestedReadsLaws
 pub mod OpenAttemptsLaws
 pub mod OpeningInvariant
 pub mod OpeningLaws
+pub mod OpeningPages
 pub mod OpeningParts
 pub mod OrderedLaws
 pub mod PageBytesLaws

@@ -24,12 +24,13 @@ use Rattle.snp_model.specs.Metadata.{AreBytes}
 use Rattle.snp_model.specs.MadePages.{AreMade}
 use Rattle.snp_model.specs.Opening.{page_facts, with_page, facts_from, with_word_spec, words_from, opening_context, opening_part, opening}
 use Rattle.snp_model.specs.Past.{Past}
-use Rattle.snp_model.specs.Shapes.{AreInRange, AreFactsOf, AreShaped, HasAsid}
+use Rattle.snp_model.specs.Shapes.{IsNobodys, AreInRange, AreFactsOf, AreShaped, HasAsid}
 use Rattle.snp_model.specs.ScenarioLines.{frames_of}
 use Rattle.snp_model.specs.Sound.{IsGuest, IsPage, IsWord, IsSound}
 use Rattle.snp_model.specs.State.{Contents, Computed, ActorPart, State, Standing, nothing_taken, idle_part, part_of, zero_words}
 use Rattle.snp_model.specs.Step.{line_at}
 use Rattle.snp_model.proofs.OpeningLaws.{page_or_before, opening_whole, opening_asid}
+use Rattle.snp_model.proofs.OpeningPages.{opening_large, whole_page}
 
 -- an actor has taken nothing
 parts_idle : (actors : List Actor) (k : ℕ) → (get_or (map opening_part actors) k idle_part).standing ≡ nothing_taken
@@ -103,12 +104,11 @@ none_some standing made idle is = let none = ap (λ (s : Standing). s.computed) 
 pub opening_made : (guest : ℕ) (c : Scenario) (past : Past) → AreMade guest (opening c) past
 opening_made guest c past actor made some is = absurd (none_some (part_of (opening c) actor).standing made (part_idle c actor) is)
 
--- each frame's facts go together, and are of 4 KB
+-- each frame's facts go together, and are of kind Plain
 pub record IsPlainFrame (facts : RmpEntry) : Type 0 where
   pub owned : facts.asid ≡ 0 → facts.validated ≡ false
   pub plain : facts.kind ≡ kinds.Plain
-  pub size_is : facts.size ≡ Small
-  pub free : facts.assigned ≡ false → facts.asid ≡ 0
+  pub free : facts.assigned ≡ false → IsNobodys facts
   pub ranges : AreInRange facts
 
 -- numbers that are each below 16 are bytes
@@ -119,7 +119,7 @@ below_byte (n ∷ ns) (suc index) small = below_byte ns index small.1
 
 free_plain : IsPlainFrame free_entry
 unfolding free_entry
-free_plain = record { owned = λ _. refl; plain = refl; size_is = refl; free = λ _. refl; ranges = record { gpn = omega arith; asid = omega arith; perms_count = refl; perms = λ index. below_byte (0 ∷ 0 ∷ 0 ∷ 0 ∷ []) index (omega arith, (omega arith, (omega arith, (omega arith, tt)))) } }
+free_plain = record { owned = λ _. refl; plain = refl; free = λ _. record { no_guest = refl; size_is = refl }; ranges = record { gpn = omega arith; asid = omega arith; perms_count = refl; perms = λ index. below_byte (0 ∷ 0 ∷ 0 ∷ 0 ∷ []) index (omega arith, (omega arith, (omega arith, (omega arith, tt)))) } }
 
 asid_below : (guests : List GuestSpec) (k : ℕ) → AllByRecursion IsGuest guests → get_or (map (λ (spec : GuestSpec). spec.asid) guests) k 0 < 2 ^ 16
 asid_below [] k are = omega arith
@@ -138,7 +138,6 @@ page_plain frames guests page place low are is =
     record {
       owned = λ none. absurd (let h = none in omega arith);
       plain = refl;
-      size_is = is.size;
       free = λ unassigned. absurd (cc);
       ranges = record {
         gpn = let high = is.gpn in omega arith;
@@ -164,12 +163,9 @@ plain_facts : (facts : RmpEntry) → IsPlainFrame facts → AreFactsOf facts
 plain_facts facts plain = record {
   owned = plain.owned;
   used = λ other. absurd (other plain.plain);
-  free = λ unassigned. record { no_guest = plain.free unassigned; size_is = plain.size_is };
+  free = plain.free;
   ranges = plain.ranges;
 }
-
-small_large : (size : PageSize) → size ≡ Small → size ≡ Large → ⊥
-small_large size a b = cc
 
 -- and its words are full
 zero_at : (n index : ℕ) → get_or {A = ℕ} (replicate n 0) index 0 ≡ 0
@@ -219,7 +215,7 @@ opening_shaped c sound =
     facts_plain (frames_of c) c.guests c.pages (λ _. free_entry) sound.guests sound.pages (λ f. free_plain) in
     record {
       facts = λ frame. plain_facts (facts_from c.guests (λ _. free_entry) c.pages frame) (plain frame);
-      whole = λ frame large. absurd (small_large _ (plain frame).size_is large);
+      whole = whole_page (opening c).contents.pages (opening_large (frames_of c) (length c.guests) c.guests c.pages (words_from (λ _. zero_words) c.words) sound.pages sound.frames_differ);
       words = λ frame. record { whole = opening_whole c.words frame; fits = λ index. words_fit (frames_of c) c.words (λ _. zero_words) sound.words (λ _ k. zeros_fit k) frame index };
       have_asids = guests_have c.guests sound.guests;
       asids_differ = sound.asids_differ;
