@@ -13,7 +13,9 @@ pub mod GuestMemoryLaws
 pub mod GuestReadsLaws
 pub mod HeldLocksLaws
 pub mod InstructionLocality
+pub mod ItemSoundLaws
 pub mod LargePages
+pub mod LineLaws
 pub mod LocalityLaws
 pub mod LockLaws
 pub mod LockedItems
