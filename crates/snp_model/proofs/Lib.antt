@@ -15,7 +15,9 @@ pub mod GuestReadsLaws
 pub mod HeldLocksLaws
 pub mod HolderLaws
 pub mod InstructionLocality
+pub mod ItemSoundLaws
 pub mod LargePages
+pub mod LineLaws
 pub mod LocalityLaws
 pub mod LockLaws
 pub mod LockedItems

@@ -1,21 +1,17 @@
 -- A scenario that lines can make is sound: each line keeps the bounds.
-use Rattle.std.proofs.Common.{◌≡◌, ℕ, zero, suc, ◌+◌, ◌*◌, ◌%◌, ◌^◌, ◌<◌, ◌≤◌, ◌⊎◌, Bool, true, false, cond, List, [], ◌∷◌, ◌++◌, length, map, get_or, Result, Ok, Err, Option, Some, None, refl, sym, ap, ◌∙◌, subst, arith, inl, inr, ⊎_elim}
+use Rattle.std.proofs.Common.{◌≡◌, ℕ, zero, suc, ◌+◌, ◌*◌, ◌%◌, ◌^◌, ◌<◌, ◌≤◌, Bool, true, false, cond, List, [], ◌∷◌, ◌++◌, length, map, get_or, Result, Ok, Err, Option, Some, None, refl, sym, ap, ◌∙◌, subst, arith, ⊎_elim}
 use Rattle.std.proofs.lemmas.List.{length-append, length-replicate, length-take-le}
-use Rattle.std.proofs.lemmas.Bool.{cond_both, and_parts}
+use Rattle.std.proofs.lemmas.Bool.{and_parts, or_parts}
 use Rattle.std.proofs.lemmas.Bool.Decides.{nat_tests}
 use Rattle.snp_model.specs.declared.reading.Reason.TheVariants.{Form, Repeat, Guest, Range}
 use Rattle.snp_model.specs.declared.entry.PageSize.{PageSize}
-use Rattle.snp_model.specs.declared.entry.PageSize.TheVariants.{Small}
+use Rattle.snp_model.specs.declared.entry.PageSize.TheVariants.{Small, Large}
 use Rattle.std.specs.Prelude.{codes, bytes_eq, take, drop, replicate, if◌then◌else◌, ◌-◌, not, ◌==◌, ◌&&◌, nat_le, nat_lt, slice_get}
 use Rattle.std.specs.List.{AllByRecursion, list_any, list_all, range_with_len}
 use Rattle.snp_model.specs.declared.reading.Reason.{Reason}
 use Rattle.snp_model.specs.declared.item.Item.{Item}
-use Rattle.snp_model.specs.declared.item.Item.TheVariants.{Access, Skip}
+use Rattle.snp_model.specs.declared.item.Item.TheVariants as items
 use Rattle.snp_model.specs.declared.item.Line.{Line}
-use Rattle.snp_model.specs.declared.item.Op.{Op}
-use Rattle.snp_model.specs.declared.item.Op.TheVariants.{Load, Store, Swap, Compare, Xor}
-use Rattle.snp_model.specs.declared.item.SkipTest.{SkipTest}
-use Rattle.snp_model.specs.declared.item.SkipTest.TheVariants.{Value}
 use Rattle.snp_model.specs.declared.scenario.Actor.{Actor}
 use Rattle.snp_model.specs.declared.scenario.GuestSpec.{GuestSpec}
 use Rattle.snp_model.specs.declared.scenario.PageSpec.{PageSpec}
@@ -25,89 +21,22 @@ use Rattle.snp_model.specs.declared.scenario.Role.TheVariants.{Cpu, Host, Firmwa
 use Rattle.snp_model.specs.declared.scenario.Scenario.{Scenario}
 use Rattle.snp_model.specs.declared.scenario.Turn.{Turn}
 use Rattle.snp_model.specs.declared.scenario.WordSpec.{WordSpec}
+use Rattle.snp_model.specs.Facts.{frames_in}
+use Rattle.snp_model.specs.Locks.{in_range}
 use Rattle.snp_model.specs.Attempts.{attempts_of, actors_attempts, script_attempts}
-use Rattle.snp_model.specs.ItemLines.{once, address_word, load_row, store_row, swap_row, cas_row, xor_row, skip_test, skip_row, skip_value_row, skip_item, access_item, item_words}
-use Rattle.snp_model.specs.Lines.{◌>>=◌, ◌>>◌, cut_at, decimal, decimal_of, hex_of, number_of, value_after, digit_value, is_hex_digit, in_word, is_decimal, is_hex, is_prefixed, or_reason, is_row, is_plain, words_of, require, word, fixed, number, ranged, below, multiple}
+use Rattle.snp_model.specs.ItemLines.{size_word, item_words}
+use Rattle.snp_model.specs.Lines.{◌>>=◌, ◌>>◌, cut_at, decimal, digit_value, is_hex_digit, is_row, is_plain, words_of, require, word, fixed, number, ranged, below, multiple}
 use Rattle.snp_model.specs.declared.reading.Quantity.{Quantity}
 use Rattle.snp_model.specs.declared.reading.Quantity.TheVariants as quantities
 use Rattle.snp_model.specs.Reading.{Made, nothing, reading, closed, Fault, refused, is_passed_over, turns_spell, order_of, by_rule, within, fit, fit_line, fit_words, add_regions, add_guest, add_page, add_word, add_actor, add_line, add_item_of, add_item, add_order, add_words, turns_count, Makes, Valid}
-use Rattle.snp_model.specs.ScenarioLines.{frames_of, regions_row, turn_from, turn_parts, turn_of, turns_after, is_order_row, order_row, version_of, version_row, first_scenario, has_five_levels, tables_at, has_no, before_pages, before_words, before_actors, before_orders, idle, opening, opened_of, next_number, page_size, guest_row, page_row, word_row, cpu_row, tables_row, host_row, with_line, has_asid, is_opened, is_declared, apart, collide, key_byte, key_of, validity}
+use Rattle.snp_model.specs.ScenarioLines.{frames_of, regions_row, turn_from, turn_parts, turn_of, turns_after, is_order_row, order_row, version_of, version_row, first_scenario, has_five_levels, tables_at, has_no, before_pages, before_words, before_actors, before_orders, idle, opening, opened_of, next_number, page_unit, guest_row, page_row, word_row, cpu_row, tables_row, host_row, with_line, has_asid, is_opened, is_declared, apart, overlap, collide, key_byte, key_of, validity}
 use Rattle.snp_model.specs.Limits.{most}
 use Rattle.snp_model.specs.Metadata.{AreBytes}
-use Rattle.snp_model.specs.Bounds.{IsPaging, IsCpu, IsRole, IsSkip, IsItemOf, IsLineOf}
+use Rattle.snp_model.specs.Bounds.{IsPaging, IsCpu, IsRole, IsItemOf, IsLineOf}
 use Rattle.snp_model.specs.Sound.{Pairwise, IsGuest, AsidsDiffer, IsPage, FramesDiffer, GpnsDiffer, IsWord, IsActor, IsTurn, IsSound}
-
--- steps that gave a value
-pub bind_ok : {A B E : Type 0} (r : Result A E) (f : A → Result B E) (y : B) → (r >>= f) ≡ Ok y → (x : A) × (r ≡ Ok x) × (f x ≡ Ok y)
-bind_ok (Ok x) f y h = (x, refl, h)
-bind_ok (Err e) f y h = absurd (cc)
-
-pub then_ok : {A B E : Type 0} (r : Result A E) (s : Result B E) (y : B) → (r >> s) ≡ Ok y → (x : A) × (r ≡ Ok x) × (s ≡ Ok y)
-then_ok (Ok x) s y h = (x, refl, h)
-then_ok (Err e) s y h = absurd (cc)
-
-pub chosen : {A : Type 0} (b : Bool) (x y z : A) → cond b x y ≡ z → ((b ≡ true) × (x ≡ z)) ⊎ ((b ≡ false) × (y ≡ z))
-chosen true x y z h = inl (refl, h)
-chosen false x y z h = inr (refl, h)
-
-pub guard_ok : {A E : Type 0} (b : Bool) (x y : A) (e : E) → cond b (Ok x) (Err e) ≡ Ok y → (b ≡ true) × (x ≡ y)
-guard_ok true x y e h = (refl, cc)
-guard_ok false x y e h = absurd (cc)
-
-pub require_ok : (b : Bool) (reason : Reason) (u : Unit {0}) → require b reason ≡ Ok u → b ≡ true
-require_ok true reason u h = refl
-require_ok false reason u h = absurd (cc)
-
-below_ok : (end : ℕ) (w : List ℕ) (n : ℕ) → below end w ≡ Ok n → n < end
-unfolding below
-below_ok end w n h =
-    let step = bind_ok (number w) (λ (k : ℕ). cond (nat_lt k end) (Ok k) (Err _)) n h in
-    let one = guard_ok (nat_lt step.0 end) step.0 n _ step.2 in
-    grind (arith, nat_tests, one.0, one.1)
-
--- a number is below 2^64
-guarded : (b : Bool) (o : Option ℕ) (n : ℕ) → cond b o None ≡ Some n → o ≡ Some n
-guarded true o n h = h
-guarded false o n h = absurd (cc)
-
-in_word_ok : (k n : ℕ) → in_word k ≡ Some n → n < 2 ^ 64
-in_word_ok k n h =
-    cond_both (nat_lt k (2 ^ 64)) _ _ (λ (o : Option ℕ). o ≡ Some n → n < 2 ^ 64)
-    (λ small is. let same : k ≡ n = cc in grind (arith, nat_tests, small, same)) (λ large is. absurd (cc)) h
-
-decimal_ok : (digits : List ℕ) (n : ℕ) → decimal_of digits ≡ Some n → n < 2 ^ 64
-unfolding decimal_of
-decimal_ok digits n h = in_word_ok (value_after 10 0 digits) n (guarded (is_decimal digits) (in_word (value_after 10 0 digits)) n h)
-
-hex_ok : (digits : List ℕ) (n : ℕ) → hex_of digits ≡ Some n → n < 2 ^ 64
-unfolding hex_of
-hex_ok digits n h = in_word_ok (value_after 16 0 digits) n (guarded (is_hex digits) (in_word (value_after 16 0 digits)) n h)
-
-number_of_ok : (w : List ℕ) (n : ℕ) → number_of w ≡ Some n → n < 2 ^ 64
-unfolding number_of
-number_of_ok w n h =
-    cond_both (is_prefixed w) _ _ (λ (o : Option ℕ). o ≡ Some n → n < 2 ^ 64) (λ _. hex_ok (drop 2 w) n) (λ _. decimal_ok w n) h
-
-reason_ok : (o : Option ℕ) (reason : Reason) (n : ℕ) → or_reason o reason ≡ Ok n → o ≡ Some n
-reason_ok (Some k) reason n h = cc
-reason_ok None reason n h = absurd (cc)
-
-number_ok : (w : List ℕ) (n : ℕ) → number w ≡ Ok n → n < 2 ^ 64
-unfolding number
-number_ok w n h = number_of_ok w n (reason_ok (number_of w) _ n h)
-
-ranged_ok : (low high : ℕ) (w : List ℕ) (n : ℕ) → ranged low high w ≡ Ok n → (low ≤ n) × (n ≤ high)
-unfolding ranged
-ranged_ok low high w n h =
-    let step = bind_ok (number w) (λ (k : ℕ). cond (nat_le low k && nat_le k high) (Ok k) (Err _)) n h in
-    let one = guard_ok (nat_le low step.0 && nat_le step.0 high) step.0 n _ step.2 in
-    (grind (arith, nat_tests, one.0, one.1), grind (arith, nat_tests, one.0, one.1))
-
-multiple_ok : (unit n m : ℕ) → multiple unit n ≡ Ok m → (m ≡ n) × (n % unit ≡ 0)
-unfolding multiple
-multiple_ok unit n m h =
-    let one = guard_ok (n % unit == 0) n m _ h in
-    (sym one.1, grind (arith, nat_tests, one.0))
+use Rattle.snp_model.proofs.ItemSoundLaws.{item_ok}
+use Rattle.snp_model.proofs.LineLaws.{below_multiple_ok, below_ok, number_ok, ranged_ok, select}
+pub use Rattle.snp_model.proofs.LineLaws.{bind_ok, then_ok, chosen, guard_ok, require_ok}
 
 -- what a scenario under way keeps
 pub record IsDraft (c : Scenario) : Type 0 where
@@ -166,7 +95,7 @@ all_take P (y ∷ ys) (suc k) all = (all.0, all_take P ys k all.1)
 -- more frames and more guests keep all bounds
 page_more : (frames frames' guests guests' : ℕ) → frames ≤ frames' → guests ≤ guests' → (page : PageSpec) → IsPage frames guests page → IsPage frames' guests' page
 page_more frames frames' guests guests' more_frames more_guests page is =
-    record { frame = let h = is.frame in omega arith; guest_some = is.guest_some; guest_most = let h = is.guest_most in omega arith; gpn = is.gpn; size = is.size; perms_three = is.perms_three; perms = is.perms }
+    record { frame = let h = is.frame in omega arith; guest_some = is.guest_some; guest_most = let h = is.guest_most in omega arith; gpn = is.gpn; aligned = is.aligned; perms_three = is.perms_three; perms = is.perms }
 
 word_more : (frames frames' : ℕ) → frames ≤ frames' → (word : WordSpec) → IsWord frames word → IsWord frames' word
 word_more frames frames' more word is = record { frame = let h = is.frame in omega arith; index = is.index; value = is.value }
@@ -179,9 +108,13 @@ role_more frames frames' guests guests' more_frames more_guests Firmware is = is
 
 item_more : (frames frames' : ℕ) → frames ≤ frames' → (role : Role) (item : Item) → IsItemOf frames role item → IsItemOf frames' role item
 item_more frames frames' more (Cpu guest vmpl npt paging) item is = is
-item_more frames frames' more Host (Access address op) is = let h = is.0 in (omega arith, is.1)
-item_more frames frames' more Host (Skip count test) is = is
-item_more frames frames' more Host item is = absurd is
+item_more frames frames' more Host (items.Access address op) is = let h = is.0 in (omega arith, is.1)
+item_more frames frames' more Host (items.Pvalidate address size validate) is = absurd is
+item_more frames frames' more Host (items.Rmpadjust address size target mask vmsa) is = absurd is
+item_more frames frames' more Host (items.Rmpupdate update) is = is
+item_more frames frames' more Host (items.Psmash frame) is = is
+item_more frames frames' more Host (items.Firmware command) is = absurd is
+item_more frames frames' more Host (items.Skip count test) is = is
 item_more frames frames' more Firmware item is = is
 
 actor_more : (frames frames' guests guests' : ℕ) → frames ≤ frames' → guests ≤ guests' → (actor : Actor) → IsActor frames guests actor → IsActor frames' guests' actor
@@ -275,46 +208,100 @@ pub record PageFacts (c : Scenario) (page : PageSpec) : Type 0 where
   pub frames : AllByRecursion (λ (other : PageSpec). FramesDiffer other page) c.pages
   pub gpns : AllByRecursion (λ (other : PageSpec). GpnsDiffer other page) c.pages
 
-size_ok : (w : List ℕ) (size : PageSize) → page_size w ≡ Ok size → size ≡ Small
-unfolding page_size
-size_ok w size h = sym (guard_ok (bytes_eq w (codes "4k")) Small size _ h).1
+-- the size of 2 MB comes with the unit of 512 frames
+size_unit : (w : List ℕ) → size_word w ≡ Ok Large → page_unit w ≡ 512
+unfolding size_word
+size_unit w h =
+    let small : Result PageSize Reason = Ok Small in
+    let large : Result PageSize Reason = Ok Large in
+    let other : Result PageSize Reason = cond (bytes_eq w (codes "2m")) large (Err Form) in
+    select (bytes_eq w (codes "4k")) small other Large (page_unit w ≡ 512)
+    (λ four said. absurd (let e : small ≡ large = said in cc))
+    (λ rest said. let one = guard_ok (bytes_eq w (codes "2m")) Large Large Form said in ap (λ (two : Bool). cond two 512 1) one.0)
+    h
+
+size_ok : (w : List ℕ) (size : PageSize) → size_word w ≡ Ok size → size ≡ Large → page_unit w ≡ 512
+size_ok w size h large = size_unit w (h ∙ ap (λ (s : PageSize). Ok s) large)
+
+-- no number is in two ranges that don't overlap
+none_in_both : (base count other more : ℕ) → overlap base count other more ≡ false → (number : ℕ) → in_range other more number ≡ true → in_range base count number ≡ true → ⊥
+none_in_both base count other more none number first second = grind (arith, nat_tests, none, first, second)
+
+frames_apart : (page other : PageSpec) → collide page other ≡ false → FramesDiffer other page
+frames_apart page other fails frame first second =
+    let none = or_parts (overlap page.frame (frames_in page.size) other.frame (frames_in other.size)) ((page.guest == other.guest) && overlap page.gpn (frames_in page.size) other.gpn (frames_in other.size)) fails in
+    none_in_both page.frame (frames_in page.size) other.frame (frames_in other.size) none.0 frame first second
+
+gpns_apart : (page other : PageSpec) → collide page other ≡ false → GpnsDiffer other page
+gpns_apart page other fails guest gpn first second =
+    let both = overlap page.gpn (frames_in page.size) other.gpn (frames_in other.size) in
+    let none = or_parts (overlap page.frame (frames_in page.size) other.frame (frames_in other.size)) ((page.guest == other.guest) && both) fails in
+    let same : (page.guest == other.guest) ≡ true = grind (arith, nat_tests, guest) in
+    let apart : both ≡ false = ap (λ (b : Bool). b && both) (sym same) ∙ none.1 in
+    none_in_both page.gpn (frames_in page.size) other.gpn (frames_in other.size) apart gpn first second
 
 apart_ok : (pages : List PageSpec) (page made : PageSpec) → apart pages page ≡ Ok made → (list_any (collide page) pages ≡ false) × (page ≡ made)
 unfolding apart
 apart_ok pages page made h =
     ⊎_elim (λ hit. absurd (let e = hit.1 in cc)) (λ miss. (miss.0, let e = miss.1 in cc)) (chosen (list_any (collide page) pages) _ _ _ h)
 
-page_chain : (c : Scenario) (frame : Result ℕ Reason) (first : Result (Unit {0}) Reason) (guest : Result ℕ Reason) (second : Result (Unit {0}) Reason) (gpn : Result ℕ Reason) (size : Result PageSize Reason) (valid : Result Bool Reason) (x y z : Result ℕ Reason) (page : PageSpec)
-    → ((n : ℕ) → frame ≡ Ok n → n < frames_of c) → ((n : ℕ) → gpn ≡ Ok n → n < 2 ^ 36) → ((n : PageSize) → size ≡ Ok n → n ≡ Small)
+page_chain : (c : Scenario) (unit : ℕ) (frame : Result ℕ Reason) (first : Result (Unit {0}) Reason) (guest : Result ℕ Reason) (second : Result (Unit {0}) Reason) (gpn : Result ℕ Reason) (size : Result PageSize Reason) (valid : Result Bool Reason) (x y z : Result ℕ Reason) (page : PageSpec)
+    → ((n : ℕ) → frame ≡ Ok n → (n < frames_of c) × (n % unit ≡ 0)) → ((n : ℕ) → gpn ≡ Ok n → (n < 2 ^ 36) × (n % unit ≡ 0)) → ((s : PageSize) → size ≡ Ok s → s ≡ Large → unit ≡ 512)
     → ((n : ℕ) → x ≡ Ok n → n < 16) → ((n : ℕ) → y ≡ Ok n → n < 16) → ((n : ℕ) → z ≡ Ok n → n < 16)
     → (frame >>= (λ (f : ℕ). first >> (guest >>= (λ (g : ℕ). second >> (gpn >>= (λ (n : ℕ). size >>= (λ (s : PageSize). valid >>= (λ (v : Bool). x >>= (λ (i : ℕ). y >>= (λ (j : ℕ). z >>= (λ (k : ℕ). require (is_opened c.guests g) Guest >> apart c.pages (let p : PageSpec = record { frame = f; guest = g; gpn = n; size = s; valid = v; perms = i ∷ j ∷ k ∷ [] } in p)))))))))))) ≡ Ok page
     → PageFacts c page
-page_chain c (Err e) first guest second gpn size valid x y z page b1 b2 b3 b4 b5 b6 h = absurd (cc)
-page_chain c (Ok f) (Err e) guest second gpn size valid x y z page b1 b2 b3 b4 b5 b6 h = absurd (cc)
-page_chain c (Ok f) (Ok u) (Err e) second gpn size valid x y z page b1 b2 b3 b4 b5 b6 h = absurd (cc)
-page_chain c (Ok f) (Ok u) (Ok g) (Err e) gpn size valid x y z page b1 b2 b3 b4 b5 b6 h = absurd (cc)
-page_chain c (Ok f) (Ok u) (Ok g) (Ok v) (Err e) size valid x y z page b1 b2 b3 b4 b5 b6 h = absurd (cc)
-page_chain c (Ok f) (Ok u) (Ok g) (Ok v) (Ok n) (Err e) valid x y z page b1 b2 b3 b4 b5 b6 h = absurd (cc)
-page_chain c (Ok f) (Ok u) (Ok g) (Ok v) (Ok n) (Ok s) (Err e) x y z page b1 b2 b3 b4 b5 b6 h = absurd (cc)
-page_chain c (Ok f) (Ok u) (Ok g) (Ok v) (Ok n) (Ok s) (Ok w) (Err e) y z page b1 b2 b3 b4 b5 b6 h = absurd (cc)
-page_chain c (Ok f) (Ok u) (Ok g) (Ok v) (Ok n) (Ok s) (Ok w) (Ok i) (Err e) z page b1 b2 b3 b4 b5 b6 h = absurd (cc)
-page_chain c (Ok f) (Ok u) (Ok g) (Ok v) (Ok n) (Ok s) (Ok w) (Ok i) (Ok j) (Err e) page b1 b2 b3 b4 b5 b6 h = absurd (cc)
-page_chain c (Ok f) (Ok u) (Ok g) (Ok v) (Ok n) (Ok s) (Ok w) (Ok i) (Ok j) (Ok k) page b1 b2 b3 b4 b5 b6 h =
+page_chain c unit (Err e) first guest second gpn size valid x y z page b1 b2 b3 b4 b5 b6 h = absurd (cc)
+page_chain c unit (Ok f) (Err e) guest second gpn size valid x y z page b1 b2 b3 b4 b5 b6 h = absurd (cc)
+page_chain c unit (Ok f) (Ok u) (Err e) second gpn size valid x y z page b1 b2 b3 b4 b5 b6 h = absurd (cc)
+page_chain c unit (Ok f) (Ok u) (Ok g) (Err e) gpn size valid x y z page b1 b2 b3 b4 b5 b6 h = absurd (cc)
+page_chain c unit (Ok f) (Ok u) (Ok g) (Ok v) (Err e) size valid x y z page b1 b2 b3 b4 b5 b6 h = absurd (cc)
+page_chain c unit (Ok f) (Ok u) (Ok g) (Ok v) (Ok n) (Err e) valid x y z page b1 b2 b3 b4 b5 b6 h = absurd (cc)
+page_chain c unit (Ok f) (Ok u) (Ok g) (Ok v) (Ok n) (Ok s) (Err e) x y z page b1 b2 b3 b4 b5 b6 h = absurd (cc)
+page_chain c unit (Ok f) (Ok u) (Ok g) (Ok v) (Ok n) (Ok s) (Ok w) (Err e) y z page b1 b2 b3 b4 b5 b6 h = absurd (cc)
+page_chain c unit (Ok f) (Ok u) (Ok g) (Ok v) (Ok n) (Ok s) (Ok w) (Ok i) (Err e) z page b1 b2 b3 b4 b5 b6 h = absurd (cc)
+page_chain c unit (Ok f) (Ok u) (Ok g) (Ok v) (Ok n) (Ok s) (Ok w) (Ok i) (Ok j) (Err e) page b1 b2 b3 b4 b5 b6 h = absurd (cc)
+page_chain c unit (Ok f) (Ok u) (Ok g) (Ok v) (Ok n) (Ok s) (Ok w) (Ok i) (Ok j) (Ok k) page b1 b2 b3 b4 b5 b6 h =
     let made : PageSpec = record { frame = f; guest = g; gpn = n; size = s; valid = w; perms = i ∷ j ∷ k ∷ [] } in
     let step = then_ok (require (is_opened c.guests g) Guest) (apart c.pages made) page h in
     let declared = opened_declared c.guests g (require_ok (is_opened c.guests g) Guest step.0 step.1) in
     let placed = apart_ok c.pages made page step.2 in
+    let framed = b1 f refl in
+    let numbered = b2 n refl in
+    let begins : (k : ℕ) → k % unit ≡ 0 → s ≡ Large → k % 512 ≡ 0 = λ k is large. subst (λ (u : ℕ). k % u ≡ 0) (b3 s refl large) is in
     subst (PageFacts c) placed.1 (record {
-      is = record { frame = b1 f refl; guest_some = declared.0; guest_most = declared.1; gpn = b2 n refl; size = b3 s refl; perms_three = refl; perms = (b4 i refl, (b5 j refl, (b6 k refl, tt))) };
-      frames = none_any (collide made) (λ (other : PageSpec). FramesDiffer other made) c.pages (λ other fails same. absurd (grind (arith, nat_tests, fails, same))) placed.0;
-      gpns = none_any (collide made) (λ (other : PageSpec). GpnsDiffer other made) c.pages (λ other fails same_guest same_gpn. absurd (grind (arith, nat_tests, fails, same_guest, same_gpn))) placed.0;
+      is = record { frame = framed.0; guest_some = declared.0; guest_most = declared.1; gpn = numbered.0; aligned = λ large. (begins f framed.1 large, begins n numbered.1 large); perms_three = refl; perms = (b4 i refl, (b5 j refl, (b6 k refl, tt))) };
+      frames = none_any (collide made) (λ (other : PageSpec). FramesDiffer other made) c.pages (frames_apart made) placed.0;
+      gpns = none_any (collide made) (λ (other : PageSpec). GpnsDiffer other made) c.pages (gpns_apart made) placed.0;
     })
+
+-- a number and that it is a multiple of a unit, as one step of its own
+page_steps : (unit : ℕ) (frame : Result ℕ Reason) (first : Result (Unit {0}) Reason) (guest : Result ℕ Reason) (second : Result (Unit {0}) Reason) (gpn : Result ℕ Reason) (rest : ℕ → ℕ → ℕ → Result PageSpec Reason)
+    → ((frame >>= multiple unit) >>= (λ (f : ℕ). first >> (guest >>= (λ (g : ℕ). second >> ((gpn >>= multiple unit) >>= (λ (n : ℕ). rest f g n))))))
+    ≡ (frame >>= (λ (k : ℕ). multiple unit k >>= (λ (f : ℕ). first >> (guest >>= (λ (g : ℕ). second >> (gpn >>= (λ (l : ℕ). multiple unit l >>= (λ (n : ℕ). rest f g n))))))))
+page_steps unit (Err e) first guest second gpn rest = refl
+page_steps unit (Ok f) (Err e) guest second gpn rest = refl
+page_steps unit (Ok f) (Ok u) (Err e) second gpn rest = refl
+page_steps unit (Ok f) (Ok u) (Ok g) (Err e) gpn rest = refl
+page_steps unit (Ok f) (Ok u) (Ok g) (Ok v) (Err e) rest = refl
+page_steps unit (Ok f) (Ok u) (Ok g) (Ok v) (Ok n) rest = refl
 
 page_row_ok : (c : Scenario) (ws : List (List ℕ)) (page : PageSpec) → page_row c ws ≡ Ok page → PageFacts c page
 unfolding page_row
 page_row_ok c ws page h =
-    page_chain c (below (frames_of c) (word ws 1)) (fixed (word ws 2) (codes "of")) (number (word ws 3)) (fixed (word ws 4) (codes "at")) (below (2 ^ 36) (word ws 5)) (page_size (word ws 6)) (validity (word ws 7)) (below 16 (word ws 8)) (below 16 (word ws 9)) (below 16 (word ws 10)) page
-    (below_ok _ _) (below_ok _ _) (size_ok _) (below_ok _ _) (below_ok _ _) (below_ok _ _) h
+    let unit = page_unit (word ws 6) in
+    let frame = below (frames_of c) (word ws 1) in
+    let of = fixed (word ws 2) (codes "of") in
+    let guest = number (word ws 3) in
+    let at = fixed (word ws 4) (codes "at") in
+    let gpn = below (2 ^ 36) (word ws 5) in
+    let size = size_word (word ws 6) in
+    let valid = validity (word ws 7) in
+    let first = below 16 (word ws 8) in
+    let second = below 16 (word ws 9) in
+    let third = below 16 (word ws 10) in
+    let rest : ℕ → ℕ → ℕ → Result PageSpec Reason = λ f g n. size >>= (λ (s : PageSize). valid >>= (λ (v : Bool). first >>= (λ (i : ℕ). second >>= (λ (j : ℕ). third >>= (λ (k : ℕ). require (is_opened c.guests g) Guest >> apart c.pages (let p : PageSpec = record { frame = f; guest = g; gpn = n; size = s; valid = v; perms = i ∷ j ∷ k ∷ [] } in p)))))) in
+    page_chain c unit (frame >>= multiple unit) of guest at (gpn >>= multiple unit) size valid first second third page
+    (below_multiple_ok _ unit _) (below_multiple_ok _ unit _) (size_ok _) (below_ok _ _) (below_ok _ _) (below_ok _ _) (page_steps unit frame of guest at gpn rest ∙ h)
 
 word_chain : (c : Scenario) (frame index value : Result ℕ Reason) (made : WordSpec)
     → ((n : ℕ) → frame ≡ Ok n → n < frames_of c) → ((n : ℕ) → index ≡ Ok n → n < 512) → ((n : ℕ) → value ≡ Ok n → n < 2 ^ 64)
@@ -399,124 +386,6 @@ host_chain c (Ok n) (Ok u) made h = let same : Host ≡ made = cc in subst (IsRo
 host_row_ok : (c : Scenario) (ws : List (List ℕ)) (made : Role) → host_row c ws ≡ Ok made → IsRole (frames_of c) (length c.guests) made
 unfolding host_row
 host_row_ok c ws made h = host_chain c (next_number (length c.actors) (word ws 1)) (fixed (word ws 2) (codes "host")) made h
-
--- items
-err_not_ok : (reason : Reason) (line : Line) → Err reason ≡ Ok line → ⊥
-err_not_ok reason line h = cc
-
--- an address is one that the actor's role may have, whatever the operation
-address_ok : (frames : ℕ) (role : Role) (w : List ℕ) (a : ℕ) → address_word role frames w ≡ Ok a → (op : Op) → IsItemOf frames role (Access a op)
-unfolding address_word
-address_ok frames (Cpu guest vmpl npt paging) w a h op =
-    let place = bind_ok (number w) (multiple 8) a h in
-    let aligned = multiple_ok 8 place.0 a place.2 in
-    ap (λ (n : ℕ). n % 8) aligned.0 ∙ aligned.1
-address_ok frames Host w a h op =
-    let place = bind_ok (below (4096 * frames) w) (multiple 8) a h in
-    let aligned = multiple_ok 8 place.0 a place.2 in
-    let within = below_ok (4096 * frames) w place.0 place.1 in
-    (subst (λ (n : ℕ). n < 4096 * frames) (sym aligned.0) within, ap (λ (n : ℕ). n % 8) aligned.0 ∙ aligned.1)
-address_ok frames Firmware w a h op = absurd (cc)
-
-access_ok : (frames : ℕ) (role : Role) (w : List ℕ) (a : ℕ) (op : Op) (line : Line) → address_word role frames w ≡ Ok a → once (Access a op) ≡ line → IsLineOf frames role line
-access_ok frames role w a op line h same = subst (IsLineOf frames role) same (record { item = address_ok frames role w a h op; retries = omega arith })
-
-load_ok : (frames : ℕ) (role : Role) (ws : List (List ℕ)) (line : Line) → load_row role frames ws ≡ Ok line → IsLineOf frames role line
-unfolding load_row
-load_ok frames role ws line h =
-    let address = bind_ok (address_word role frames (word ws 1)) (λ (a : ℕ). Ok (once (Access a Load))) line h in
-    access_ok frames role (word ws 1) address.0 Load line address.1 (let e = address.2 in cc)
-
-store_ok : (frames : ℕ) (role : Role) (ws : List (List ℕ)) (line : Line) → store_row role frames ws ≡ Ok line → IsLineOf frames role line
-unfolding store_row
-store_ok frames role ws line h =
-    let address = bind_ok (address_word role frames (word ws 1)) (λ (a : ℕ). number (word ws 2) >>= (λ (v : ℕ). Ok (once (Access a (Store v))))) line h in
-    let value = bind_ok (number (word ws 2)) (λ (v : ℕ). Ok (once (Access address.0 (Store v)))) line address.2 in
-    access_ok frames role (word ws 1) address.0 (Store value.0) line address.1 (let e = value.2 in cc)
-
-swap_ok : (frames : ℕ) (role : Role) (ws : List (List ℕ)) (line : Line) → swap_row role frames ws ≡ Ok line → IsLineOf frames role line
-unfolding swap_row
-swap_ok frames role ws line h =
-    let address = bind_ok (address_word role frames (word ws 1)) (λ (a : ℕ). number (word ws 2) >>= (λ (v : ℕ). Ok (once (Access a (Swap v))))) line h in
-    let value = bind_ok (number (word ws 2)) (λ (v : ℕ). Ok (once (Access address.0 (Swap v)))) line address.2 in
-    access_ok frames role (word ws 1) address.0 (Swap value.0) line address.1 (let e = value.2 in cc)
-
-cas_ok : (frames : ℕ) (role : Role) (ws : List (List ℕ)) (line : Line) → cas_row role frames ws ≡ Ok line → IsLineOf frames role line
-unfolding cas_row
-cas_ok frames role ws line h =
-    let address = bind_ok (address_word role frames (word ws 1)) (λ (a : ℕ). number (word ws 2) >>= (λ (old : ℕ). number (word ws 3) >>= (λ (new : ℕ). Ok (once (Access a (Compare old new)))))) line h in
-    let expected = bind_ok (number (word ws 2)) (λ (old : ℕ). number (word ws 3) >>= (λ (new : ℕ). Ok (once (Access address.0 (Compare old new))))) line address.2 in
-    let next = bind_ok (number (word ws 3)) (λ (new : ℕ). Ok (once (Access address.0 (Compare expected.0 new)))) line expected.2 in
-    access_ok frames role (word ws 1) address.0 (Compare expected.0 next.0) line address.1 (let e = next.2 in cc)
-
-xor_ok : (frames : ℕ) (role : Role) (ws : List (List ℕ)) (line : Line) → xor_row role frames ws ≡ Ok line → IsLineOf frames role line
-unfolding xor_row
-xor_ok frames role ws line h =
-    let address = bind_ok (address_word role frames (word ws 1)) (λ (a : ℕ). number (word ws 2) >>= (λ (v : ℕ). Ok (once (Access a (Xor v))))) line h in
-    let value = bind_ok (number (word ws 2)) (λ (v : ℕ). Ok (once (Access address.0 (Xor v)))) line address.2 in
-    access_ok frames role (word ws 1) address.0 (Xor value.0) line address.1 (let e = value.2 in cc)
-
--- every role may have a skip
-skip_of : (frames : ℕ) (role : Role) (count : ℕ) (test : SkipTest) → IsSkip count → IsItemOf frames role (Skip count test)
-skip_of frames (Cpu guest vmpl npt paging) count test is = is
-skip_of frames Host count test is = is
-skip_of frames Firmware count test is = is
-
-skipped_ok : (frames : ℕ) (role : Role) (w : List ℕ) (count : ℕ) (test : SkipTest) (line : Line) → ranged 1 8192 w ≡ Ok count → once (Skip count test) ≡ line → IsLineOf frames role line
-skipped_ok frames role w count test line h same = subst (IsLineOf frames role) same (record { item = skip_of frames role count test (ranged_ok 1 8192 w count h); retries = omega arith })
-
-skip_ok : (frames : ℕ) (role : Role) (ws : List (List ℕ)) (line : Line) → skip_row ws ≡ Ok line → IsLineOf frames role line
-unfolding skip_row
-skip_ok frames role ws line h =
-    let count = bind_ok (ranged 1 8192 (word ws 1)) (λ (n : ℕ). fixed (word ws 2) (codes "if") >> (skip_test (word ws 3) >>= (λ (t : SkipTest). Ok (once (Skip n t))))) line h in
-    let is_if = then_ok (fixed (word ws 2) (codes "if")) (skip_test (word ws 3) >>= (λ (t : SkipTest). Ok (once (Skip count.0 t)))) line count.2 in
-    let test = bind_ok (skip_test (word ws 3)) (λ (t : SkipTest). Ok (once (Skip count.0 t))) line is_if.2 in
-    skipped_ok frames role (word ws 1) count.0 test.0 line count.1 (let e = test.2 in cc)
-
-skip_value_ok : (frames : ℕ) (role : Role) (ws : List (List ℕ)) (line : Line) → skip_value_row ws ≡ Ok line → IsLineOf frames role line
-unfolding skip_value_row
-skip_value_ok frames role ws line h =
-    let count = bind_ok (ranged 1 8192 (word ws 1)) (λ (n : ℕ). fixed (word ws 2) (codes "if") >> (fixed (word ws 3) (codes "value") >> (number (word ws 4) >>= (λ (v : ℕ). Ok (once (Skip n (Value v))))))) line h in
-    let is_if = then_ok (fixed (word ws 2) (codes "if")) (fixed (word ws 3) (codes "value") >> (number (word ws 4) >>= (λ (v : ℕ). Ok (once (Skip count.0 (Value v)))))) line count.2 in
-    let is_value = then_ok (fixed (word ws 3) (codes "value")) (number (word ws 4) >>= (λ (v : ℕ). Ok (once (Skip count.0 (Value v))))) line is_if.2 in
-    let value = bind_ok (number (word ws 4)) (λ (v : ℕ). Ok (once (Skip count.0 (Value v)))) line is_value.2 in
-    skipped_ok frames role (word ws 1) count.0 (Value value.0) line count.1 (let e = value.2 in cc)
-
-select : {A E : Type 0} (b : Bool) (x y : Result A E) (z : A) (P : Type 0) → (b ≡ true → x ≡ Ok z → P) → (b ≡ false → y ≡ Ok z → P) → cond b x y ≡ Ok z → P
-select true x y z P first second h = first refl h
-select false x y z P first second h = second refl h
-
-skip_item_ok : (frames : ℕ) (role : Role) (ws : List (List ℕ)) (line : Line) → skip_item ws ≡ Ok line → IsLineOf frames role line
-unfolding skip_item
-skip_item_ok frames role ws line h =
-    let refused : Result Line Reason = Err Form in
-    let P = IsLineOf frames role line in
-    select (is_row ws (codes "skip") 4) (skip_row ws) (cond (is_row ws (codes "skip") 5) (skip_value_row ws) refused) line P
-    (λ fits made. skip_ok frames role ws line made)
-    (λ fails other. select (is_row ws (codes "skip") 5) (skip_value_row ws) refused line P
-    (λ fits made. skip_value_ok frames role ws line made)
-    (λ none made. absurd (err_not_ok Form line made)) other)
-    h
-
-access_item_ok : (frames : ℕ) (role : Role) (ws : List (List ℕ)) (line : Line) → access_item role frames ws ≡ Ok line → IsLineOf frames role line
-unfolding access_item
-access_item_ok frames role ws line h =
-    let P = IsLineOf frames role line in
-    let xor : Result Line Reason = cond (is_row ws (codes "xor") 3) (xor_row role frames ws) (skip_item ws) in
-    let cas : Result Line Reason = cond (is_row ws (codes "cas") 4) (cas_row role frames ws) xor in
-    let swap : Result Line Reason = cond (is_row ws (codes "swap") 3) (swap_row role frames ws) cas in
-    let store : Result Line Reason = cond (is_row ws (codes "store") 3) (store_row role frames ws) swap in
-    select (is_row ws (codes "load") 2) (load_row role frames ws) store line P (λ _ made. load_ok frames role ws line made)
-    (λ _ h1. select (is_row ws (codes "store") 3) (store_row role frames ws) swap line P (λ _ made. store_ok frames role ws line made)
-    (λ _ h2. select (is_row ws (codes "swap") 3) (swap_row role frames ws) cas line P (λ _ made. swap_ok frames role ws line made)
-    (λ _ h3. select (is_row ws (codes "cas") 4) (cas_row role frames ws) xor line P (λ _ made. cas_ok frames role ws line made)
-    (λ _ h4. select (is_row ws (codes "xor") 3) (xor_row role frames ws) (skip_item ws) line P (λ _ made. xor_ok frames role ws line made)
-    (λ _ h5. skip_item_ok frames role ws line h5) h4) h3) h2) h1) h
-
-item_ok : (frames : ℕ) (role : Role) (ws : List (List ℕ)) (line : Line) → item_words role frames ws ≡ Ok line → IsLineOf frames role line
-item_ok frames (Cpu guest vmpl npt paging) ws line h = access_item_ok frames (Cpu guest vmpl npt paging) ws line h
-item_ok frames Host ws line h = access_item_ok frames Host ws line h
-item_ok frames Firmware ws line h = skip_item_ok frames Firmware ws line h
 
 -- schedules
 turn_from_ok : (actor count : ℕ) (turn : Turn) → turn_from actor count ≡ Ok turn → IsTurn turn

@@ -1,0 +1,189 @@
+-- An item that a line can make is one that its actor's role may have: each row of items keeps the bounds.
+use Rattle.std.proofs.Common.{◌≡◌, ℕ, ◌+◌, ◌*◌, ◌%◌, ◌^◌, ◌<◌, Bool, cond, List, Result, Ok, Err, refl, ap, ◌∙◌, subst, arith}
+use Rattle.std.specs.Prelude.{codes, length, ◌==◌}
+use Rattle.snp_model.specs.declared.entry.PageSize.{PageSize}
+use Rattle.snp_model.specs.declared.reading.Reason.{Reason}
+use Rattle.snp_model.specs.declared.reading.Reason.TheVariants.{Form}
+use Rattle.snp_model.specs.declared.item.Item.TheVariants.{Access, Psmash, Rmpupdate, Skip}
+use Rattle.snp_model.specs.declared.item.Line.{Line}
+use Rattle.snp_model.specs.declared.item.Op.{Op}
+use Rattle.snp_model.specs.declared.item.Op.TheVariants.{Load, Store, Swap, Compare, Xor}
+use Rattle.snp_model.specs.declared.item.SkipTest.{SkipTest}
+use Rattle.snp_model.specs.declared.item.SkipTest.TheVariants.{Value}
+use Rattle.snp_model.specs.declared.item.Update.{Update}
+use Rattle.snp_model.specs.declared.scenario.Role.{Role}
+use Rattle.snp_model.specs.declared.scenario.Role.TheVariants.{Cpu, Host, Firmware}
+use Rattle.snp_model.specs.Bounds.{IsSkip, IsUpdate, IsItemOf, IsLineOf}
+use Rattle.snp_model.specs.ItemLines.{once, address_word, load_row, store_row, swap_row, cas_row, xor_row, skip_test, skip_row, skip_value_row, skip_item, access_item, size_word, flag_word, is_retry_row, retries_word, update_operands, update_row, smash_row, host_item, item_words}
+use Rattle.snp_model.specs.Lines.{◌>>=◌, ◌>>◌, below, fixed, is_row, multiple, number, ranged, word}
+use Rattle.snp_model.proofs.LineLaws.{below_multiple_ok, below_ok, bind_ok, multiple_ok, ranged_ok, select, then_ok}
+
+err_not_ok : (reason : Reason) (line : Line) → Err reason ≡ Ok line → ⊥
+err_not_ok reason line h = cc
+
+-- an address is one that the actor's role may have, whatever the operation
+address_ok : (frames : ℕ) (role : Role) (w : List ℕ) (a : ℕ) → address_word role frames w ≡ Ok a → (op : Op) → IsItemOf frames role (Access a op)
+unfolding address_word
+address_ok frames (Cpu guest vmpl npt paging) w a h op =
+    let place = bind_ok (number w) (multiple 8) a h in
+    let aligned = multiple_ok 8 place.0 a place.2 in
+    ap (λ (n : ℕ). n % 8) aligned.0 ∙ aligned.1
+address_ok frames Host w a h op = below_multiple_ok (4096 * frames) 8 w a h
+address_ok frames Firmware w a h op = absurd (cc)
+
+access_ok : (frames : ℕ) (role : Role) (w : List ℕ) (a : ℕ) (op : Op) (line : Line) → address_word role frames w ≡ Ok a → once (Access a op) ≡ line → IsLineOf frames role line
+access_ok frames role w a op line h same = subst (IsLineOf frames role) same (record { item = address_ok frames role w a h op; retries = omega arith })
+
+load_ok : (frames : ℕ) (role : Role) (ws : List (List ℕ)) (line : Line) → load_row role frames ws ≡ Ok line → IsLineOf frames role line
+unfolding load_row
+load_ok frames role ws line h =
+    let address = bind_ok (address_word role frames (word ws 1)) (λ (a : ℕ). Ok (once (Access a Load))) line h in
+    access_ok frames role (word ws 1) address.0 Load line address.1 (let e = address.2 in cc)
+
+store_ok : (frames : ℕ) (role : Role) (ws : List (List ℕ)) (line : Line) → store_row role frames ws ≡ Ok line → IsLineOf frames role line
+unfolding store_row
+store_ok frames role ws line h =
+    let address = bind_ok (address_word role frames (word ws 1)) (λ (a : ℕ). number (word ws 2) >>= (λ (v : ℕ). Ok (once (Access a (Store v))))) line h in
+    let value = bind_ok (number (word ws 2)) (λ (v : ℕ). Ok (once (Access address.0 (Store v)))) line address.2 in
+    access_ok frames role (word ws 1) address.0 (Store value.0) line address.1 (let e = value.2 in cc)
+
+swap_ok : (frames : ℕ) (role : Role) (ws : List (List ℕ)) (line : Line) → swap_row role frames ws ≡ Ok line → IsLineOf frames role line
+unfolding swap_row
+swap_ok frames role ws line h =
+    let address = bind_ok (address_word role frames (word ws 1)) (λ (a : ℕ). number (word ws 2) >>= (λ (v : ℕ). Ok (once (Access a (Swap v))))) line h in
+    let value = bind_ok (number (word ws 2)) (λ (v : ℕ). Ok (once (Access address.0 (Swap v)))) line address.2 in
+    access_ok frames role (word ws 1) address.0 (Swap value.0) line address.1 (let e = value.2 in cc)
+
+cas_ok : (frames : ℕ) (role : Role) (ws : List (List ℕ)) (line : Line) → cas_row role frames ws ≡ Ok line → IsLineOf frames role line
+unfolding cas_row
+cas_ok frames role ws line h =
+    let address = bind_ok (address_word role frames (word ws 1)) (λ (a : ℕ). number (word ws 2) >>= (λ (old : ℕ). number (word ws 3) >>= (λ (new : ℕ). Ok (once (Access a (Compare old new)))))) line h in
+    let expected = bind_ok (number (word ws 2)) (λ (old : ℕ). number (word ws 3) >>= (λ (new : ℕ). Ok (once (Access address.0 (Compare old new))))) line address.2 in
+    let next = bind_ok (number (word ws 3)) (λ (new : ℕ). Ok (once (Access address.0 (Compare expected.0 new)))) line expected.2 in
+    access_ok frames role (word ws 1) address.0 (Compare expected.0 next.0) line address.1 (let e = next.2 in cc)
+
+xor_ok : (frames : ℕ) (role : Role) (ws : List (List ℕ)) (line : Line) → xor_row role frames ws ≡ Ok line → IsLineOf frames role line
+unfolding xor_row
+xor_ok frames role ws line h =
+    let address = bind_ok (address_word role frames (word ws 1)) (λ (a : ℕ). number (word ws 2) >>= (λ (v : ℕ). Ok (once (Access a (Xor v))))) line h in
+    let value = bind_ok (number (word ws 2)) (λ (v : ℕ). Ok (once (Access address.0 (Xor v)))) line address.2 in
+    access_ok frames role (word ws 1) address.0 (Xor value.0) line address.1 (let e = value.2 in cc)
+
+-- every role may have a skip
+skip_of : (frames : ℕ) (role : Role) (count : ℕ) (test : SkipTest) → IsSkip count → IsItemOf frames role (Skip count test)
+skip_of frames (Cpu guest vmpl npt paging) count test is = is
+skip_of frames Host count test is = is
+skip_of frames Firmware count test is = is
+
+skipped_ok : (frames : ℕ) (role : Role) (w : List ℕ) (count : ℕ) (test : SkipTest) (line : Line) → ranged 1 8192 w ≡ Ok count → once (Skip count test) ≡ line → IsLineOf frames role line
+skipped_ok frames role w count test line h same = subst (IsLineOf frames role) same (record { item = skip_of frames role count test (ranged_ok 1 8192 w count h); retries = omega arith })
+
+skip_ok : (frames : ℕ) (role : Role) (ws : List (List ℕ)) (line : Line) → skip_row ws ≡ Ok line → IsLineOf frames role line
+unfolding skip_row
+skip_ok frames role ws line h =
+    let count = bind_ok (ranged 1 8192 (word ws 1)) (λ (n : ℕ). fixed (word ws 2) (codes "if") >> (skip_test (word ws 3) >>= (λ (t : SkipTest). Ok (once (Skip n t))))) line h in
+    let is_if = then_ok (fixed (word ws 2) (codes "if")) (skip_test (word ws 3) >>= (λ (t : SkipTest). Ok (once (Skip count.0 t)))) line count.2 in
+    let test = bind_ok (skip_test (word ws 3)) (λ (t : SkipTest). Ok (once (Skip count.0 t))) line is_if.2 in
+    skipped_ok frames role (word ws 1) count.0 test.0 line count.1 (let e = test.2 in cc)
+
+skip_value_ok : (frames : ℕ) (role : Role) (ws : List (List ℕ)) (line : Line) → skip_value_row ws ≡ Ok line → IsLineOf frames role line
+unfolding skip_value_row
+skip_value_ok frames role ws line h =
+    let count = bind_ok (ranged 1 8192 (word ws 1)) (λ (n : ℕ). fixed (word ws 2) (codes "if") >> (fixed (word ws 3) (codes "value") >> (number (word ws 4) >>= (λ (v : ℕ). Ok (once (Skip n (Value v))))))) line h in
+    let is_if = then_ok (fixed (word ws 2) (codes "if")) (fixed (word ws 3) (codes "value") >> (number (word ws 4) >>= (λ (v : ℕ). Ok (once (Skip count.0 (Value v)))))) line count.2 in
+    let is_value = then_ok (fixed (word ws 3) (codes "value")) (number (word ws 4) >>= (λ (v : ℕ). Ok (once (Skip count.0 (Value v))))) line is_if.2 in
+    let value = bind_ok (number (word ws 4)) (λ (v : ℕ). Ok (once (Skip count.0 (Value v)))) line is_value.2 in
+    skipped_ok frames role (word ws 1) count.0 (Value value.0) line count.1 (let e = value.2 in cc)
+
+skip_item_ok : (frames : ℕ) (role : Role) (ws : List (List ℕ)) (line : Line) → skip_item ws ≡ Ok line → IsLineOf frames role line
+unfolding skip_item
+skip_item_ok frames role ws line h =
+    let refused : Result Line Reason = Err Form in
+    let P = IsLineOf frames role line in
+    select (is_row ws (codes "skip") 4) (skip_row ws) (cond (is_row ws (codes "skip") 5) (skip_value_row ws) refused) line P
+    (λ fits made. skip_ok frames role ws line made)
+    (λ fails other. select (is_row ws (codes "skip") 5) (skip_value_row ws) refused line P
+    (λ fits made. skip_value_ok frames role ws line made)
+    (λ none made. absurd (err_not_ok Form line made)) other)
+    h
+
+access_item_ok : (frames : ℕ) (role : Role) (ws : List (List ℕ)) (line : Line) → access_item role frames ws ≡ Ok line → IsLineOf frames role line
+unfolding access_item
+access_item_ok frames role ws line h =
+    let P = IsLineOf frames role line in
+    let xor : Result Line Reason = cond (is_row ws (codes "xor") 3) (xor_row role frames ws) (skip_item ws) in
+    let cas : Result Line Reason = cond (is_row ws (codes "cas") 4) (cas_row role frames ws) xor in
+    let swap : Result Line Reason = cond (is_row ws (codes "swap") 3) (swap_row role frames ws) cas in
+    let store : Result Line Reason = cond (is_row ws (codes "store") 3) (store_row role frames ws) swap in
+    select (is_row ws (codes "load") 2) (load_row role frames ws) store line P (λ _ made. load_ok frames role ws line made)
+    (λ _ h1. select (is_row ws (codes "store") 3) (store_row role frames ws) swap line P (λ _ made. store_ok frames role ws line made)
+    (λ _ h2. select (is_row ws (codes "swap") 3) (swap_row role frames ws) cas line P (λ _ made. swap_ok frames role ws line made)
+    (λ _ h3. select (is_row ws (codes "cas") 4) (cas_row role frames ws) xor line P (λ _ made. cas_ok frames role ws line made)
+    (λ _ h4. select (is_row ws (codes "xor") 3) (xor_row role frames ws) (skip_item ws) line P (λ _ made. xor_ok frames role ws line made)
+    (λ _ h5. skip_item_ok frames role ws line h5) h4) h3) h2) h1) h
+
+-- an item is tried again at most 255 times
+retries_ok : (ws : List (List ℕ)) (count retries : ℕ) → retries_word ws count ≡ Ok retries → retries < 256
+unfolding retries_word
+retries_ok ws count retries h =
+    let never : Result ℕ Reason = Ok 0 in
+    let times : Result ℕ Reason = ranged 1 255 (word ws (count + 1)) in
+    select (length ws == count) never (fixed (word ws count) (codes "retry") >> times) retries (retries < 256)
+    (λ ends said. let same : 0 ≡ retries = cc in subst (λ (n : ℕ). n < 256) same (omega arith))
+    (λ longer said.
+    let named = then_ok (fixed (word ws count) (codes "retry")) times retries said in
+    let most = ranged_ok 1 255 (word ws (count + 1)) retries named.2 in
+    omega (arith, most.1))
+    h
+
+operands_chain : (frame : Result ℕ Reason) (size : Result PageSize Reason) (assigned : Result Bool Reason) (asid gpn : Result ℕ Reason) (immutable : Result Bool Reason) (update : Update)
+    → ((n : ℕ) → asid ≡ Ok n → n < 1024) → ((n : ℕ) → gpn ≡ Ok n → n < 2 ^ 36)
+    → (frame >>= (λ (f : ℕ). size >>= (λ (s : PageSize). assigned >>= (λ (b : Bool). asid >>= (λ (a : ℕ). gpn >>= (λ (n : ℕ). immutable >>= (λ (i : Bool). Ok (let u : Update = record { frame = f; size = s; assigned = b; asid = a; gpn = n; immutable = i } in u)))))))) ≡ Ok update
+    → IsUpdate update
+operands_chain (Err e) size assigned asid gpn immutable update b1 b2 h = absurd (cc)
+operands_chain (Ok f) (Err e) assigned asid gpn immutable update b1 b2 h = absurd (cc)
+operands_chain (Ok f) (Ok s) (Err e) asid gpn immutable update b1 b2 h = absurd (cc)
+operands_chain (Ok f) (Ok s) (Ok b) (Err e) gpn immutable update b1 b2 h = absurd (cc)
+operands_chain (Ok f) (Ok s) (Ok b) (Ok a) (Err e) immutable update b1 b2 h = absurd (cc)
+operands_chain (Ok f) (Ok s) (Ok b) (Ok a) (Ok n) (Err e) update b1 b2 h = absurd (cc)
+operands_chain (Ok f) (Ok s) (Ok b) (Ok a) (Ok n) (Ok i) update b1 b2 h =
+    let made : Update = record { frame = f; size = s; assigned = b; asid = a; gpn = n; immutable = i } in
+    let same : made ≡ update = cc in
+    subst IsUpdate same (b1 a refl, b2 n refl)
+
+update_operands_ok : (ws : List (List ℕ)) (update : Update) → update_operands ws ≡ Ok update → IsUpdate update
+unfolding update_operands
+update_operands_ok ws update h =
+    operands_chain (number (word ws 1)) (size_word (word ws 2)) (flag_word (word ws 3)) (below 1024 (word ws 4)) (below (2 ^ 36) (word ws 5)) (flag_word (word ws 6)) update (below_ok _ _) (below_ok _ _) h
+
+update_row_ok : (frames : ℕ) (ws : List (List ℕ)) (line : Line) → update_row ws ≡ Ok line → IsLineOf frames Host line
+unfolding update_row
+update_row_ok frames ws line h =
+    let update = bind_ok (update_operands ws) (λ (u : Update). retries_word ws 7 >>= (λ (n : ℕ). Ok (let l : Line = record { item = Rmpupdate u; retries = n } in l))) line h in
+    let retries = bind_ok (retries_word ws 7) (λ (n : ℕ). Ok (let l : Line = record { item = Rmpupdate update.0; retries = n } in l)) line update.2 in
+    let made : Line = record { item = Rmpupdate update.0; retries = retries.0 } in
+    let same : made ≡ line = let e = retries.2 in cc in
+    subst (IsLineOf frames Host) same (record { item = update_operands_ok ws update.0 update.1; retries = retries_ok ws 7 retries.0 retries.1 })
+
+smash_row_ok : (frames : ℕ) (ws : List (List ℕ)) (line : Line) → smash_row ws ≡ Ok line → IsLineOf frames Host line
+unfolding smash_row
+smash_row_ok frames ws line h =
+    let frame = bind_ok (number (word ws 1)) (λ (f : ℕ). retries_word ws 2 >>= (λ (n : ℕ). Ok (let l : Line = record { item = Psmash f; retries = n } in l))) line h in
+    let retries = bind_ok (retries_word ws 2) (λ (n : ℕ). Ok (let l : Line = record { item = Psmash frame.0; retries = n } in l)) line frame.2 in
+    let made : Line = record { item = Psmash frame.0; retries = retries.0 } in
+    let same : made ≡ line = let e = retries.2 in cc in
+    subst (IsLineOf frames Host) same (record { item = tt; retries = retries_ok ws 2 retries.0 retries.1 })
+
+host_item_ok : (frames : ℕ) (ws : List (List ℕ)) (line : Line) → host_item frames ws ≡ Ok line → IsLineOf frames Host line
+unfolding host_item
+host_item_ok frames ws line h =
+    let P = IsLineOf frames Host line in
+    let smash : Result Line Reason = cond (is_retry_row ws (codes "psmash") 2) (smash_row ws) (access_item Host frames ws) in
+    select (is_retry_row ws (codes "rmpupdate") 7) (update_row ws) smash line P (λ _ made. update_row_ok frames ws line made)
+    (λ _ h1. select (is_retry_row ws (codes "psmash") 2) (smash_row ws) (access_item Host frames ws) line P (λ _ made. smash_row_ok frames ws line made)
+    (λ _ h2. access_item_ok frames Host ws line h2) h1) h
+
+pub item_ok : (frames : ℕ) (role : Role) (ws : List (List ℕ)) (line : Line) → item_words role frames ws ≡ Ok line → IsLineOf frames role line
+item_ok frames (Cpu guest vmpl npt paging) ws line h = access_item_ok frames (Cpu guest vmpl npt paging) ws line h
+item_ok frames Host ws line h = host_item_ok frames ws line h
+item_ok frames Firmware ws line h = skip_item_ok frames Firmware ws line h
