@@ -13,6 +13,8 @@ pub mod GuestMemoryLaws
 pub mod GuestReadsLaws
 pub mod HeldLocksLaws
 pub mod InstructionLocality
+pub mod ItemUseLaws
+pub mod LargeItems
 pub mod LargePages
 pub mod LocalityLaws
 pub mod LockLaws
@@ -38,10 +40,12 @@ pub mod ReadyLaws
 pub mod RegionLaws
 pub mod RegionPagesLaws
 pub mod RoomLaws
+pub mod RunInvariant
 pub mod RunLaws
 pub mod SealLaws
 pub mod ShapeLaws
 pub mod SoundLaws
 pub mod TestedLaws
+pub mod TestedRanges
 pub mod UpdateLaws
 pub mod UseLaws

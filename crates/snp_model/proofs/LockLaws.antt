@@ -129,10 +129,10 @@ range_whole pages Small frame small aligned f g inside large same =
 range_whole pages Large frame small aligned f g inside large same = region_covered frame f g (aligned refl) inside same
 
 -- it is free where none of its frames has a holder
-range_place : (size : PageSize) (frame g : ℕ) → covers g (range_lock size frame) ≡ true → in_range 0 (frames_in size) (g - frame) ≡ true
+pub range_place : (size : PageSize) (frame g : ℕ) → covers g (range_lock size frame) ≡ true → in_range 0 (frames_in size) (g - frame) ≡ true
 range_place size frame g inside = grind (arith, nat_tests)
 
-range_frame : (size : PageSize) (frame g : ℕ) → covers g (range_lock size frame) ≡ true → frame + (g - frame) ≡ g
+pub range_frame : (size : PageSize) (frame g : ℕ) → covers g (range_lock size frame) ≡ true → frame + (g - frame) ≡ g
 range_frame size frame g inside =
     let low : frame ≤ g = grind (arith, nat_tests) in omega arith
 
