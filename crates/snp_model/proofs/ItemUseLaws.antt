@@ -1,5 +1,5 @@
 -- What an event of any item does to the pages of a guest, and what it finds in the guest's memory.
-use Rattle.std.proofs.Common.{◌≡◌, ℕ, ◌+◌, ◌/◌, List, [], ◌∷◌, Option, Some, None, refl, subst}
+use Rattle.std.proofs.Common.{ℕ, ◌/◌, List, [], ◌∷◌, Option, Some, None, refl}
 use Rattle.snp_model.specs.declared.event.Deed.TheVariants as deeds
 use Rattle.snp_model.specs.declared.event.Outcome.{Outcome}
 use Rattle.snp_model.specs.declared.item.Item.{Item}
@@ -9,7 +9,7 @@ use Rattle.snp_model.specs.declared.scenario.GuestSpec.{GuestSpec}
 use Rattle.snp_model.specs.declared.scenario.Role.{Role}
 use Rattle.snp_model.specs.declared.scenario.Role.TheVariants.{Cpu, Host, Firmware}
 use Rattle.snp_model.specs.GuestMemory.{Memory, use_of, firmware_use, use_for}
-use Rattle.snp_model.specs.HeldLocks.{IsUpdateLock, IsSmashLock, IsOneLock, AreInstructionLocks, AreItemLocks}
+use Rattle.snp_model.specs.HeldLocks.{IsUpdateLock, IsOneLock, AreItemLocks}
 use Rattle.snp_model.specs.InstructionStep.{update_move, smash_move}
 use Rattle.snp_model.specs.Live.{Archive}
 use Rattle.snp_model.specs.Moves.{lock_move}

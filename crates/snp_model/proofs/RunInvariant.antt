@@ -1,10 +1,8 @@
 -- What every run of a valid scenario keeps, whatever the guest is: locks and what they have tested, and pages of 2 MB as a whole.
-use Rattle.std.proofs.Common.{◌≡◌, ◌≢◌, ℕ, zero, suc, ◌-◌, ◌<◌, ◌≤◌, true, false, List, [], ◌∷◌, length, map, get_or, None, refl, sym, ◌∙◌, arith}
+use Rattle.std.proofs.Common.{◌≡◌, ◌≢◌, ℕ, zero, suc, ◌-◌, ◌<◌, List, [], ◌∷◌, length, map, get_or, None, sym, ◌∙◌, arith}
 use Rattle.std.specs.FinMap.{empty}
 use Rattle.std.specs.List.{AllByRecursion}
 use Rattle.std.proofs.lemmas.Bool.{true≢false}
-use Rattle.snp_model.specs.declared.entry.Kind.{Kind}
-use Rattle.snp_model.specs.declared.entry.Kind.TheVariants as kinds
 use Rattle.snp_model.specs.declared.entry.PageSize.TheVariants.{Large}
 use Rattle.snp_model.specs.declared.entry.RmpEntry.{RmpEntry}
 use Rattle.snp_model.specs.declared.scenario.Actor.{Actor}
@@ -18,19 +16,18 @@ use Rattle.snp_model.specs.HeldLocks.{AreLocked}
 use Rattle.snp_model.specs.Holders.{IsHeldAs}
 use Rattle.snp_model.specs.KeptLocks.{KeepsLocks}
 use Rattle.snp_model.specs.Live.{Archive, vault_of}
-use Rattle.snp_model.specs.Opening.{asid_of, words_from, opening_part, opening}
+use Rattle.snp_model.specs.Opening.{words_from, opening_part, opening}
 use Rattle.snp_model.specs.Run.{state_after, IsDefined}
 use Rattle.snp_model.specs.Shapes.{AreFactsOf, IsWholePage}
 use Rattle.snp_model.specs.Sound.{IsGuest, IsActor, IsSound}
-use Rattle.snp_model.specs.State.{Pages, State, idle_part, part_of, zero_words}
+use Rattle.snp_model.specs.State.{Pages, idle_part, zero_words}
 use Rattle.snp_model.proofs.CoreLaws.{KindFits, FrameCore, frames_core}
 use Rattle.snp_model.proofs.GuestMemoryLaws.{Keeps, actors_proved, opening_large, opening_locks, run_keeps}
-use Rattle.snp_model.proofs.LargePages.{AreLargeWhole}
 use Rattle.snp_model.proofs.LockedRuns.{IsMetadataFirm, are_locked}
 use Rattle.snp_model.proofs.OpenAttemptsLaws.{opening_walking}
 use Rattle.snp_model.proofs.OpeningLaws.{opening_whole, opening_fits, opening_dead}
 use Rattle.snp_model.proofs.OpeningParts.{opening_shaped}
-use Rattle.snp_model.proofs.UseLaws.{RoleOwns}
+use Rattle.snp_model.proofs.UseLaws.{RoleOwns, metadata_not_plain}
 
 -- nobody is guest 0, and ASID 0 is nobody's: of it no page is ever held
 
@@ -87,9 +84,6 @@ pub run_keeps_all_locks : (c : Scenario) (s : List ℕ) → IsSound c → IsDefi
 run_keeps_all_locks c s sound defined = (state_keeps c s sound defined).locks
 
 -- a metadata page is assigned and immutable
-metadata_not_plain : (kind : Kind) → kind ≡ kinds.Metadata → kind ≡ kinds.Plain → ⊥
-metadata_not_plain kind a b = cc
-
 metadata_firm : (facts : RmpEntry) → KindFits facts → IsMetadataFirm facts
 metadata_firm facts fits = record { firm = λ is. (fits.assigned (metadata_not_plain facts.kind is), fits.immutable (metadata_not_plain facts.kind is)) }
 

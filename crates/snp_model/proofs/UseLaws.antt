@@ -1,5 +1,5 @@
 -- Each event keeps the one holder of each page, and finds in the guest's memory what it needs.
-use Rattle.std.proofs.Common.{◌≡◌, ◌≢◌, ℕ, ◌/◌, ◌<◌, Bool, true, false, not, ◌&&◌, ◌||◌, eqb, slice_index, List, [], ◌∷◌, length, Option, Some, None, refl, sym, ◌∙◌, subst, arith}
+use Rattle.std.proofs.Common.{◌≡◌, ◌≢◌, ℕ, ◌<◌, Bool, true, false, not, ◌&&◌, ◌||◌, eqb, slice_index, List, [], ◌∷◌, length, Option, Some, None, refl, sym, ◌∙◌, subst, arith}
 use Rattle.std.proofs.lemmas.Bool.{cond_both, eqb-true, eqb-false, true≢false}
 use Rattle.std.proofs.lemmas.Bool.Decides.{nat_tests}
 use Rattle.snp_model.specs.declared.access.Place.{Place}
@@ -25,14 +25,13 @@ use Rattle.snp_model.specs.declared.walk.Need.{Need}
 use Rattle.snp_model.specs.declared.walk.Need.TheVariants as needs
 use Rattle.snp_model.specs.declared.entry.PageSize.{PageSize}
 use Rattle.snp_model.specs.GuestWalk.{levels_of, is_canonical}
-use Rattle.snp_model.specs.Walking.{Processor, lookup_of, index_of}
+use Rattle.snp_model.specs.Walking.{Processor, index_of}
 use Rattle.snp_model.specs.Opening.{asid_of}
 use Rattle.snp_model.specs.Operations.{outcome_of}
-use Rattle.snp_model.specs.Skips.{skip_outcome}
 use Rattle.snp_model.specs.Verdicts.{private_verdict, private_refusal, shared_verdict, host_verdict, is_large, lacks}
-use Rattle.snp_model.specs.State.{Pages, Context, Contents, ActorPart, View, with_word, word_of}
+use Rattle.snp_model.specs.State.{Pages, Context, Contents, ActorPart, with_word, word_of}
 use Rattle.snp_model.specs.Moves.{Move, Arrival, is_running, quiet_move, misplaced_move, faulted_move, begin_move, table_move, need_move, walked_move, table_place}
-use Rattle.snp_model.specs.Step.{item_move, access_move, pages_after, data_move, host_access, data_place}
+use Rattle.snp_model.specs.Step.{access_move, pages_after, data_move, data_place}
 use Rattle.snp_model.specs.GuestMemory.{Memory, Use, Untouched, use_of_word, use_of, firmware_use, use_for, IsLegalUse, used}
 use Rattle.snp_model.specs.Live.{Archive, Vault, vault_of}
 use Rattle.snp_model.specs.Holders.{IsHeldAs, Core}
@@ -42,7 +41,7 @@ use Rattle.snp_model.proofs.CoreLaws.{KindFits, AreFit, with_word_facts, with_wo
 abbrev pub AreWhole : Pages → Type 0
 AreWhole pages = (f : ℕ) → length (pages f).words ≡ 512
 
-metadata_not_plain : (kind : Kind) → kind ≡ kinds.Metadata → kind ≡ kinds.Plain → ⊥
+pub metadata_not_plain : (kind : Kind) → kind ≡ kinds.Metadata → kind ≡ kinds.Plain → ⊥
 metadata_not_plain kind a b = cc
 
 no_metadata_free : (facts : RmpEntry) → KindFits facts → facts.assigned ≡ false → facts.kind ≢ kinds.Metadata
