@@ -1,9 +1,6 @@
 -- Each guest's private accesses are one legal history of a memory of its own, whatever the schedule is.
-use Rattle.std.proofs.Common.{◌≡◌, ◌≢◌, ℕ, zero, suc, ◌-◌, ◌<◌, ◌≤◌, true, List, [], ◌∷◌, length, map, get_or, None, refl, sym, ap, ◌∙◌, subst, arith}
+use Rattle.std.proofs.Common.{◌≢◌, ℕ, zero, suc, ◌-◌, ◌<◌, ◌≤◌, List, [], ◌∷◌, length, map, get_or, None, refl, sym, ap, subst, arith}
 use Rattle.std.specs.List.{AllByRecursion}
-use Rattle.std.proofs.lemmas.Bool.Decides.{nat_tests}
-use Rattle.snp_model.specs.declared.entry.PageSize.{PageSize}
-use Rattle.snp_model.specs.declared.entry.PageSize.TheVariants.{Small}
 use Rattle.snp_model.specs.declared.item.Item.{Item}
 use Rattle.snp_model.specs.declared.item.Item.TheVariants as items
 use Rattle.snp_model.specs.declared.item.Line.{Line}
@@ -15,12 +12,13 @@ use Rattle.snp_model.specs.declared.scenario.PageSpec.{PageSpec}
 use Rattle.snp_model.specs.declared.scenario.Role.{Role}
 use Rattle.snp_model.specs.declared.scenario.Role.TheVariants.{Cpu, Host, Firmware}
 use Rattle.snp_model.specs.declared.scenario.Scenario.{Scenario}
-use Rattle.snp_model.specs.Locks.{in_range, view_of}
-use Rattle.snp_model.specs.State.{State, part_of, idle_part, zero_words}
+use Rattle.snp_model.specs.KeptLocks.{KeepsLocks}
+use Rattle.snp_model.specs.Locks.{view_of}
+use Rattle.snp_model.specs.OpenAttempts.{AreWalking}
+use Rattle.snp_model.specs.State.{State, part_of, idle_part, IsUnfinished, zero_words}
 use Rattle.snp_model.specs.Step.{idle_line, line_at, event_of, after}
-use Rattle.snp_model.specs.Facts.{frames_in}
 use Rattle.snp_model.specs.Opening.{asid_of, words_from, opening, opening_part}
-use Rattle.snp_model.specs.Run.{state_from, state_after, IsDefined}
+use Rattle.snp_model.specs.Run.{state_from, state_after, IsDefinedFrom, IsDefined}
 use Rattle.snp_model.specs.Bounds.{IsRole, IsItemOf, IsLineOf}
 use Rattle.snp_model.specs.Sound.{Pairwise, IsSound, AsidsDiffer, IsPage, GpnsDiffer, IsActor}
 use Rattle.snp_model.specs.GuestMemory.{Memory, next_use, used, opening_memory, memory_from, memory_after, IsLegalFrom, IsLegal, AreLegal}
@@ -28,20 +26,30 @@ use Rattle.snp_model.specs.Live.{Archive, vault_of}
 use Rattle.snp_model.specs.Holders.{Core}
 use Rattle.snp_model.proofs.CoreLaws.{AreFit, frames_core}
 use Rattle.snp_model.proofs.RunLaws.{after_keeps}
-use Rattle.snp_model.proofs.UseLaws.{AreWhole, RoleOwns, IsProved, Fine, item_fine}
+use Rattle.snp_model.proofs.UseLaws.{AreWhole, RoleOwns, IsProved, Fine}
+use Rattle.snp_model.proofs.ItemUseLaws.{item_fine}
+use Rattle.snp_model.proofs.LargeItems.{step_large}
+use Rattle.snp_model.proofs.LargePages.{AreLargeWhole, shaped_large, sizes_whole}
+use Rattle.snp_model.proofs.LockedLaws.{step_keeps_locks}
+use Rattle.snp_model.proofs.LockedRuns.{part_walking, opening_keeps_locks}
+use Rattle.snp_model.proofs.OpenAttemptsLaws.{after_walking, opening_walking}
 use Rattle.snp_model.proofs.OpeningLaws.{IsApartFrom, RangesApart, opening_core, opening_whole, opening_fits, opening_dead}
+use Rattle.snp_model.proofs.OpeningParts.{opening_shaped}
 
 -- the items of a script are such as this is proved of
-abbrev AreProved : Role → List Line → Type 0
+abbrev pub AreProved : Role → List Line → Type 0
 AreProved role script = (place : ℕ) → IsProved role (line_at script place).item
 
--- what a state keeps for a guest, beside the guest's memory
+-- what a state keeps for a guest: beside the guest's memory, what it keeps of locks, of open attempts and of pages of 2 MB
 pub record Keeps (guest asid : ℕ) (archive : Archive) (m : State) (memory : Memory) : Type 0 where
   pub core : Core asid (vault_of guest m.contents archive) memory
   pub whole : AreWhole m.contents.pages
   pub fits : AreFit m.contents.pages
   pub owns : (actor : ℕ) → RoleOwns guest asid m.guests (part_of m actor).role
   pub known : (actor : ℕ) → AreProved (part_of m actor).role (part_of m actor).script
+  pub locks : KeepsLocks m
+  pub walking : AreWalking m
+  pub large : AreLargeWhole m.contents.pages
 
 -- an event of any actor
 step_fine : (guest asid : ℕ) (archive : Archive) (m : State) (memory : Memory) (actor : ℕ) → Keeps guest asid archive m memory
@@ -50,36 +58,46 @@ unfolding after next_use event_of
 step_fine guest asid archive m memory actor keeps =
     let part = part_of m actor in
     (item_fine guest asid archive m.guests memory m.frames (view_of m) part part.role (line_at part.script part.item).item
-    (record { core = keeps.core; whole = keeps.whole; fits = keeps.fits }) (keeps.owns actor) (keeps.known actor part.item)).fine
+    (record { core = keeps.core; whole = keeps.whole; fits = keeps.fits }) (keeps.owns actor) (keeps.known actor part.item)
+    keeps.large (keeps.locks.tested (actor - 1))).fine
+
+-- each actor is of the guest that it was of
+owns_after : (guest asid : ℕ) (m : State) (actor other : ℕ) → RoleOwns guest asid m.guests (part_of m other).role → RoleOwns guest asid (after m actor).guests (part_of (after m actor) other).role
+unfolding after
+owns_after guest asid m actor other owns = subst (RoleOwns guest asid m.guests) (sym (after_keeps m actor other).role) owns
 
 -- so the next state keeps the same
-step_keeps : (guest asid : ℕ) (archive : Archive) (m : State) (memory : Memory) (actor : ℕ) → Keeps guest asid archive m memory
+step_keeps : (guest asid : ℕ) (archive : Archive) (m : State) (memory : Memory) (actor : ℕ) → IsUnfinished m actor → Keeps guest asid archive m memory
     → Keeps guest asid archive (after m actor) (used (next_use guest m actor) memory)
-unfolding after
-step_keeps guest asid archive m memory actor keeps =
+step_keeps guest asid archive m memory actor unfinished keeps =
     let fine = step_fine guest asid archive m memory actor keeps in
+    let part = part_of m actor in
+    let own_walking = part_walking m actor keeps.walking unfinished in
     record {
       core = fine.core;
       whole = fine.whole;
       fits = fine.fits;
-      owns = λ other. subst (RoleOwns guest asid m.guests) (sym (after_keeps m actor other).role) (keeps.owns other);
+      owns = λ other. owns_after guest asid m actor other (keeps.owns other);
       known = λ other. let kept = after_keeps m actor other in rw (kept.role, kept.script) (keeps.known other);
+      locks = step_keeps_locks m actor keeps.locks own_walking;
+      walking = after_walking m actor keeps.walking unfinished;
+      large = step_large m actor keeps.locks own_walking (keeps.known actor part.item) keeps.large;
     }
 
 -- so a run from a state on
-pub run_keeps : (guest asid : ℕ) (archive : Archive) (m : State) (memory : Memory) (s : List ℕ) → Keeps guest asid archive m memory
+pub run_keeps : (guest asid : ℕ) (archive : Archive) (m : State) (memory : Memory) (s : List ℕ) → IsDefinedFrom m s → Keeps guest asid archive m memory
     → Keeps guest asid archive (state_from m s) (memory_from guest m memory s)
-unfolding state_from memory_from
-run_keeps guest asid archive m memory [] keeps = keeps
-run_keeps guest asid archive m memory (a ∷ s) keeps =
-    run_keeps guest asid archive (after m a) (used (next_use guest m a) memory) s (step_keeps guest asid archive m memory a keeps)
+unfolding state_from memory_from IsDefinedFrom
+run_keeps guest asid archive m memory [] defined keeps = keeps
+run_keeps guest asid archive m memory (a ∷ s) defined keeps =
+    run_keeps guest asid archive (after m a) (used (next_use guest m a) memory) s defined.1 (step_keeps guest asid archive m memory a defined.0 keeps)
 
-pub run_legal : (guest asid : ℕ) (archive : Archive) (m : State) (memory : Memory) (s : List ℕ) → Keeps guest asid archive m memory → IsLegalFrom guest m memory s
-unfolding IsLegalFrom
-run_legal guest asid archive m memory [] keeps = tt
-run_legal guest asid archive m memory (a ∷ s) keeps = (
+pub run_legal : (guest asid : ℕ) (archive : Archive) (m : State) (memory : Memory) (s : List ℕ) → IsDefinedFrom m s → Keeps guest asid archive m memory → IsLegalFrom guest m memory s
+unfolding IsLegalFrom IsDefinedFrom
+run_legal guest asid archive m memory [] defined keeps = tt
+run_legal guest asid archive m memory (a ∷ s) defined keeps = (
   (step_fine guest asid archive m memory a keeps).legal,
-  run_legal guest asid archive (after m a) (used (next_use guest m a) memory) s (step_keeps guest asid archive m memory a keeps),
+  run_legal guest asid archive (after m a) (used (next_use guest m a) memory) s defined.1 (step_keeps guest asid archive m memory a defined.0 keeps),
 )
 
 -- two guests have two ASIDs
@@ -112,21 +130,13 @@ pages_apart c guest sound some most frames [] all = tt
 pages_apart c guest sound some most frames (page ∷ pages) all =
     (record { other = λ different. asids_differ c sound page.guest guest all.0.guest_some all.0.guest_most some most different }, pages_apart c guest sound some most frames pages all.1)
 
-small_range : (page : PageSpec) (q : ℕ) → page.size ≡ Small → in_range page.gpn (frames_in page.size) q ≡ true → q ≡ page.gpn
-small_range page q small inside =
-    let one : in_range page.gpn 1 q ≡ true = subst (λ (size : PageSize). in_range page.gpn (frames_in size) q ≡ true) small inside in
-    grind (arith, nat_tests)
+ranges_from : (page : PageSpec) (others : List PageSpec) → AllByRecursion (GpnsDiffer page) others → AllByRecursion (RangesApart page) others
+ranges_from page [] differ = tt
+ranges_from page (other ∷ others) differ = (record { apart = λ q same. differ.0 same q }, ranges_from page others differ.1)
 
-ranges_from : (frames guests : ℕ) (page : PageSpec) (others : List PageSpec) → IsPage frames guests page → AllByRecursion (IsPage frames guests) others → AllByRecursion (GpnsDiffer page) others
-    → AllByRecursion (RangesApart page) others
-ranges_from frames guests page [] is all differ = tt
-ranges_from frames guests page (other ∷ others) is all differ =
-    (record { apart = λ q same a b. differ.0 same (sym (small_range page q is.size a) ∙ small_range other q all.0.size b) }, ranges_from frames guests page others is all.1 differ.1)
-
-ranges_apart : (frames guests : ℕ) (pages : List PageSpec) → AllByRecursion (IsPage frames guests) pages → Pairwise GpnsDiffer pages → Pairwise RangesApart pages
-ranges_apart frames guests [] all differ = tt
-ranges_apart frames guests (page ∷ pages) all differ =
-    (ranges_from frames guests page pages all.0 all.1 differ.0, ranges_apart frames guests pages all.1 differ.1)
+ranges_apart : (pages : List PageSpec) → Pairwise GpnsDiffer pages → Pairwise RangesApart pages
+ranges_apart [] differ = tt
+ranges_apart (page ∷ pages) differ = (ranges_from page pages differ.0, ranges_apart pages differ.1)
 
 -- each actor is of a declared guest, or of none
 declared_owns : (c : Scenario) (guest : ℕ) (frames : ℕ) (role : Role) → IsSound c → 0 < guest → guest ≤ length c.guests → IsRole frames (length c.guests) role
@@ -157,8 +167,8 @@ sound_proved frames (Cpu owner vmpl npt paging) (items.Skip count test) is = tt
 sound_proved frames Host (items.Access address op) is = tt
 sound_proved frames Host (items.Pvalidate address size validate) is = tt
 sound_proved frames Host (items.Rmpadjust address size target mask vmsa) is = tt
-sound_proved frames Host (items.Rmpupdate update) is = is
-sound_proved frames Host (items.Psmash frame) is = is
+sound_proved frames Host (items.Rmpupdate update) is = tt
+sound_proved frames Host (items.Psmash frame) is = tt
 sound_proved frames Host (items.Firmware command) is = tt
 sound_proved frames Host (items.Skip count test) is = tt
 sound_proved frames Firmware (items.Access address op) is = tt
@@ -180,12 +190,20 @@ script_proved frames role [] all place = skip_proved role 0 Good
 script_proved frames role (line ∷ lines) all zero = sound_proved frames role line.item all.0.item
 script_proved frames role (line ∷ lines) all (suc place) = script_proved frames role lines all.1 place
 
-actors_proved : (frames guests : ℕ) (actors : List Actor) (k : ℕ) → AllByRecursion (IsActor frames guests) actors
+pub actors_proved : (frames guests : ℕ) (actors : List Actor) (k : ℕ) → AllByRecursion (IsActor frames guests) actors
     → AreProved (get_or (map opening_part actors) k idle_part).role (get_or (map opening_part actors) k idle_part).script
 unfolding idle_part
 actors_proved frames guests [] k all = script_proved frames Host [] tt
 actors_proved frames guests (actor ∷ actors) zero all = script_proved frames actor.role actor.script all.0.script
 actors_proved frames guests (actor ∷ actors) (suc k) all = actors_proved frames guests actors k all.1
+
+-- at the opening pages of 2 MB are whole
+pub opening_large : (c : Scenario) → IsSound c → AreLargeWhole (opening c).contents.pages
+opening_large c sound = shaped_large (opening c) (opening_shaped c sound)
+
+-- and nothing is locked
+pub opening_locks : (c : Scenario) → IsSound c → KeepsLocks (opening c)
+opening_locks c sound = opening_keeps_locks c (sizes_whole (opening c).contents.pages (opening_large c sound))
 
 pub opening_keeps : (c : Scenario) (guest : ℕ) (archive : Archive) → IsSound c → 0 < guest → guest ≤ length c.guests
     → Keeps guest (asid_of c.guests guest) archive (opening c) (opening_memory c guest)
@@ -194,23 +212,26 @@ opening_keeps c guest archive sound some most =
     let words = words_from (λ _. zero_words) c.words in
     record {
       core = frames_core (asid_of c.guests guest) (vault_of guest (opening c).contents archive) _ (opening_dead c.guests guest c.pages words (asid_of c.guests guest) archive)
-          (opening_core c.guests guest c.pages words (pages_apart c guest sound some most _ c.pages sound.pages) (ranges_apart _ (length c.guests) c.pages sound.pages sound.gpns_differ));
+          (opening_core c.guests guest c.pages words (pages_apart c guest sound some most _ c.pages sound.pages) (ranges_apart c.pages sound.gpns_differ));
       whole = opening_whole c.words;
       fits = opening_fits c.guests c.pages words;
       owns = λ actor. actors_own c guest _ c.actors (actor - 1) sound some most sound.actors;
       known = λ actor. actors_proved _ _ c.actors (actor - 1) sound.actors;
+      locks = opening_locks c sound;
+      walking = opening_walking c;
+      large = opening_large c sound;
     }
 
 -- in each state of a run each page of a declared guest has at most one holder, with the words of the guest's memory, whatever archive is taken: while nothing is sealed, no entry is live
-pub state_keeps_core : (c : Scenario) (s : List ℕ) (archive : Archive) → IsSound c → (guest : ℕ) → 0 < guest → guest ≤ length c.guests
+pub state_keeps_core : (c : Scenario) (s : List ℕ) (archive : Archive) → IsSound c → IsDefined c s → (guest : ℕ) → 0 < guest → guest ≤ length c.guests
     → Core (asid_of c.guests guest) (vault_of guest (state_after c s).contents archive) (memory_after c s guest)
-state_keeps_core c s archive sound guest some most =
-    (run_keeps guest (asid_of c.guests guest) archive (opening c) (opening_memory c guest) s (opening_keeps c guest archive sound some most)).core
+state_keeps_core c s archive sound defined guest some most =
+    (run_keeps guest (asid_of c.guests guest) archive (opening c) (opening_memory c guest) s defined (opening_keeps c guest archive sound some most)).core
 
 -- and each declared guest's private accesses are one legal history of its memory
 pub guest_memory_legal : (c : Scenario) (s : List ℕ) → IsSound c → IsDefined c s → (guest : ℕ) → 0 < guest → guest ≤ length c.guests → IsLegal c s guest
 guest_memory_legal c s sound defined guest some most =
-    run_legal guest (asid_of c.guests guest) (λ _. None) (opening c) (opening_memory c guest) s (opening_keeps c guest (λ _. None) sound some most)
+    run_legal guest (asid_of c.guests guest) (λ _. None) (opening c) (opening_memory c guest) s defined (opening_keeps c guest (λ _. None) sound some most)
 
 pub guests_are_legal : (c : Scenario) (s : List ℕ) → IsSound c → IsDefined c s → AreLegal c s
 guests_are_legal c s sound defined guest some most = guest_memory_legal c s sound defined guest some most

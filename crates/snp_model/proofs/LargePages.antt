@@ -10,8 +10,8 @@ use Rattle.snp_model.specs.Facts.{free_entry, page_base}
 use Rattle.snp_model.specs.KeptLocks.{AreOfOneRegion, AreWholePages}
 use Rattle.snp_model.specs.Locks.{over_lock, covers, page_lock, range_lock}
 use Rattle.snp_model.specs.RmpUpdate.{makes_immutable, immutable_kind, assigned_facts, updated_facts, pages_updated, pages_smashed}
-use Rattle.snp_model.specs.Shapes.{AreOfOnePage}
-use Rattle.snp_model.specs.State.{Pages, PageLock}
+use Rattle.snp_model.specs.Shapes.{AreOfOnePage, AreShaped, IsWholePage}
+use Rattle.snp_model.specs.State.{Pages, PageLock, State}
 use Rattle.snp_model.specs.Validation.{carry, validated_facts, validated_page, pages_validated, adjusted_facts, adjusted_page, pages_adjusted}
 use Rattle.snp_model.proofs.LockLaws.{small_not_large, small_range_covered, region_covered, page_region, region_page}
 use Rattle.snp_model.proofs.LockedItems.{size_inside, small_after, by_range}
@@ -24,6 +24,17 @@ pub record AreLargeWhole (pages : Pages) : Type 0 where
 -- so its frames are of one size
 pub sizes_whole : (pages : Pages) → AreLargeWhole pages → AreWholePages pages
 sizes_whole pages whole = record { large = λ f g large same. ap (λ (facts : RmpEntry). facts.size) (whole.together f g large same).alike ∙ large }
+
+-- so where the frames of a state have their shapes
+pub shaped_large : (m : State) → AreShaped m → AreLargeWhole m.contents.pages
+shaped_large m shaped = record {
+  together = λ f g large same. (shaped.whole f large).together g (sym same);
+  aligned = λ f large. (shaped.whole f large).aligned;
+}
+
+-- in other words, page by page
+pub whole_page : (pages : Pages) → AreLargeWhole pages → (frame : ℕ) → (pages frame).facts.size ≡ Large → IsWholePage pages frame
+whole_page pages whole frame large = record { aligned = whole.aligned frame large; together = λ other same. whole.together frame other large (sym same) }
 
 -- the first frame of a frame's page of 2 MB is in the same region
 base_region : (f : ℕ) → AreOfOneRegion f (page_base Large f)
@@ -185,10 +196,10 @@ first_aligned update frame b pages new false true is gpn at large page =
     ap (λ (q : ℕ). q % 512) value ∙ ap (λ (q : ℕ). q % 512) (no_distance update.gpn b frame is) ∙ gpn
 first_aligned update frame b pages new false false is gpn at large page = absurd (small_not_large _ (ap (λ (x : RmpEntry). x.size) at ∙ free_small) large)
 
-low_of : (frame f : ℕ) → covers f (range_lock Large frame) ≡ true → frame ≤ f
+pub low_of : (frame f : ℕ) → covers f (range_lock Large frame) ≡ true → frame ≤ f
 low_of frame f inside = grind (arith, nat_tests)
 
-high_of : (frame f : ℕ) → covers f (range_lock Large frame) ≡ true → f < frame + 512
+pub high_of : (frame f : ℕ) → covers f (range_lock Large frame) ≡ true → f < frame + 512
 high_of frame f inside = grind (arith, nat_tests)
 
 base_is : (frame f : ℕ) → frame % 512 ≡ 0 → covers f (range_lock Large frame) ≡ true → page_base Large f ≡ frame

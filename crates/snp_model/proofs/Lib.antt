@@ -16,6 +16,8 @@ pub mod HeldLocksLaws
 pub mod HolderLaws
 pub mod InstructionLocality
 pub mod ItemSoundLaws
+pub mod ItemUseLaws
+pub mod LargeItems
 pub mod LargePages
 pub mod LineLaws
 pub mod LocalityLaws
@@ -43,10 +45,12 @@ pub mod ReadyLaws
 pub mod RegionLaws
 pub mod RegionPagesLaws
 pub mod RoomLaws
+pub mod RunInvariant
 pub mod RunLaws
 pub mod SealLaws
 pub mod ShapeLaws
 pub mod SoundLaws
 pub mod TestedLaws
+pub mod TestedRanges
 pub mod UpdateLaws
 pub mod UseLaws

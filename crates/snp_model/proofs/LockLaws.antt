@@ -1,5 +1,5 @@
 -- Locks of open attempts: which are free, what a new one covers, and what stays locked.
-use Rattle.std.proofs.Common.{◌≡◌, ◌≢◌, ◌⊎◌, ℕ, zero, suc, ◌+◌, ◌-◌, ◌/◌, ◌*◌, ◌%◌, ◌<◌, ◌≤◌, Bool, true, false, cond, List, [], ◌∷◌, length, get_or, set, Option, Some, None, refl, sym, ◌∙◌, subst, ⊎_elim, arith}
+use Rattle.std.proofs.Common.{◌≡◌, ◌≢◌, ◌⊎◌, ℕ, zero, suc, ◌+◌, ◌-◌, ◌/◌, ◌*◌, ◌%◌, ◌<◌, ◌≤◌, Bool, true, false, cond, List, [], ◌∷◌, length, set, Option, Some, None, refl, sym, ◌∙◌, subst, ⊎_elim, arith}
 use Rattle.std.proofs.lemmas.Bool.{cases_eq, cases_lt, true≢false}
 use Rattle.std.proofs.lemmas.Bool.Decides.{nat_tests}
 use Rattle.std.proofs.lemmas.List.{get_or-set_same, get_or-set_other, set_past}
@@ -129,10 +129,10 @@ range_whole pages Small frame small aligned f g inside large same =
 range_whole pages Large frame small aligned f g inside large same = region_covered frame f g (aligned refl) inside same
 
 -- it is free where none of its frames has a holder
-range_place : (size : PageSize) (frame g : ℕ) → covers g (range_lock size frame) ≡ true → in_range 0 (frames_in size) (g - frame) ≡ true
+pub range_place : (size : PageSize) (frame g : ℕ) → covers g (range_lock size frame) ≡ true → in_range 0 (frames_in size) (g - frame) ≡ true
 range_place size frame g inside = grind (arith, nat_tests)
 
-range_frame : (size : PageSize) (frame g : ℕ) → covers g (range_lock size frame) ≡ true → frame + (g - frame) ≡ g
+pub range_frame : (size : PageSize) (frame g : ℕ) → covers g (range_lock size frame) ≡ true → frame + (g - frame) ≡ g
 range_frame size frame g inside =
     let low : frame ≤ g = grind (arith, nat_tests) in omega arith
 

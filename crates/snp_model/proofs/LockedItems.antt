@@ -133,7 +133,7 @@ fitting_small Large facts fits small = absurd (small_not_large Large small refl)
 no_place : (frame : ℕ) → frame + 0 ≡ frame
 no_place frame = omega arith
 
-first_small : (pages : Pages) (update : Update) → overlaps update.size (λ place. (pages (update.frame + place)).facts) ≡ false → update.size ≡ Small → (pages update.frame).facts.size ≡ Small
+pub first_small : (pages : Pages) (update : Update) → overlaps update.size (λ place. (pages (update.frame + place)).facts) ≡ false → update.size ≡ Small → (pages update.frame).facts.size ≡ Small
 first_small pages update fits small =
     subst (λ (k : ℕ). (pages k).facts.size ≡ Small) (no_place update.frame) (fitting_small update.size (λ place. (pages (update.frame + place)).facts) fits small)
 
@@ -142,7 +142,7 @@ aligned_frame : (size : PageSize) (frame : ℕ) → size ≡ Large → (is_large
 aligned_frame Small frame large aligned = absurd (small_not_large Small refl large)
 aligned_frame Large frame large aligned = grind (arith, nat_tests)
 
-bad_aligned : (frames : ℕ) (update : Update) → is_bad_update frames update ≡ false → update.size ≡ Large → update.frame % 512 ≡ 0
+pub bad_aligned : (frames : ℕ) (update : Update) → is_bad_update frames update ≡ false → update.size ≡ Large → update.frame % 512 ≡ 0
 unfolding is_bad_update
 bad_aligned frames update fine large = aligned_frame update.size update.frame large (grind (arith, nat_tests))
 
@@ -198,7 +198,7 @@ smashed_whole frame pages whole = record {
       (λ outside. smashed_beside lock pages g outside ∙ whole.large f g (sym (smashed_beside lock pages f beside) ∙ large) region));
 }
 
-is_large_size : (size : PageSize) → is_large size ≡ true → size ≡ Large
+pub is_large_size : (size : PageSize) → is_large size ≡ true → size ≡ Large
 is_large_size Small large = absurd (true≢false (sym large))
 is_large_size Large large = refl
 

@@ -30,9 +30,9 @@ use Rattle.snp_model.specs.Facts.{frames_in}
 use Rattle.snp_model.specs.Firmware.{CommandPage, invalid_page_size, invalid_page_state}
 use Rattle.snp_model.specs.FirmwareLocks.{guest_refusal, context_refusal, frame_refusal, page_refusal, page_extra, source_refusal, entry_refusal, owned_refusal, out_entry_refusal, in_entry_refusal, takes_large}
 use Rattle.snp_model.specs.FirmwareStep.{command_asid, lock_refusal}
-use Rattle.snp_model.specs.HeldLocks.{PageTest, IsUpdateLock, IsSmashLock, IsWalkedLock, AreCommandLocks, IsOneLock, AreInstructionLocks, AreItemLocks, AreTested}
+use Rattle.snp_model.specs.HeldLocks.{PageTest, IsUpdateLock, IsSmashLock, IsWalkedLock, AreCommandLocks, IsOneLock, AreInstructionLocks, AreItemLocks}
 use Rattle.snp_model.specs.InstructionStep.{facts_of, page_place}
-use Rattle.snp_model.specs.KeptLocks.{actor_at, AreWholePages, HaveOneHolder, IsTestedAt, KeepsLocks}
+use Rattle.snp_model.specs.KeptLocks.{actor_at, IsTestedAt, KeepsLocks}
 use Rattle.snp_model.specs.Locks.{covers, locks_frame, locks_context, page_lock, range_lock, view_of}
 use Rattle.snp_model.specs.Metadata.{entry_at}
 use Rattle.snp_model.specs.Moves.{Move}

@@ -27,7 +27,7 @@ use Rattle.snp_model.proofs.OpenAttemptsLaws.{after_walking, opening_walking}
 use Rattle.snp_model.proofs.RunLaws.{unfinished_at, after_part}
 
 -- an actor that makes an event walks
-part_walking : (m : State) (actor : ℕ) → AreWalking m → IsUnfinished m actor → IsWalking m.frames (part_of m actor)
+pub part_walking : (m : State) (actor : ℕ) → AreWalking m → IsUnfinished m actor → IsWalking m.frames (part_of m actor)
 part_walking m actor walking unfinished = walking (actor - 1) idle_part (unfinished_at m actor unfinished).within
 
 pub run_keeps_locks : (m : State) (s : List ℕ) → IsDefinedFrom m s → AreWalking m → KeepsLocks m → KeepsLocks (state_from m s)

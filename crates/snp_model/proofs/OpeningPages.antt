@@ -11,9 +11,9 @@ use Rattle.snp_model.specs.Facts.{free_entry, frames_in, page_base}
 use Rattle.snp_model.specs.KeptLocks.{AreOfOneRegion}
 use Rattle.snp_model.specs.Locks.{in_range}
 use Rattle.snp_model.specs.Opening.{page_facts, with_page, facts_from}
-use Rattle.snp_model.specs.Shapes.{AreOfOnePage, IsWholePage, AreShaped}
+use Rattle.snp_model.specs.Shapes.{AreOfOnePage}
 use Rattle.snp_model.specs.Sound.{Pairwise, FramesDiffer, IsPage}
-use Rattle.snp_model.specs.State.{Pages, State}
+use Rattle.snp_model.specs.State.{Pages}
 use Rattle.snp_model.proofs.LargePages.{AreLargeWhole}
 use Rattle.snp_model.proofs.LockLaws.{small_not_large, region_covered}
 use Rattle.snp_model.proofs.LockedItems.{by_range}
@@ -171,13 +171,3 @@ free_whole words = record { together = λ f g large same. absurd (small_not_larg
 pub opening_large : (frames count : ℕ) (guests : List GuestSpec) (pages : List PageSpec) (words : ℕ → List ℕ) → AllByRecursion (IsPage frames count) pages → Pairwise FramesDiffer pages
     → AreLargeWhole (pages_with (facts_from guests (λ _. free_entry) pages) words)
 opening_large frames count guests pages words lines apart = facts_whole frames count guests pages (λ _. free_entry) words lines apart (all_small pages) (free_whole words)
-
--- the two ways of saying that pages of 2 MB are whole
-pub whole_page : (pages : Pages) → AreLargeWhole pages → (frame : ℕ) → (pages frame).facts.size ≡ Large → IsWholePage pages frame
-whole_page pages whole frame large = record { aligned = whole.aligned frame large; together = λ other same. whole.together frame other large (sym same) }
-
-pub shaped_large : (m : State) → AreShaped m → AreLargeWhole m.contents.pages
-shaped_large m shaped = record {
-  together = λ f g large same. (shaped.whole f large).together g (sym same);
-  aligned = λ f large. (shaped.whole f large).aligned;
-}

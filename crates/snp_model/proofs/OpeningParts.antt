@@ -30,7 +30,8 @@ use Rattle.snp_model.specs.Sound.{IsGuest, IsPage, IsWord, IsSound}
 use Rattle.snp_model.specs.State.{Contents, Computed, ActorPart, State, Standing, nothing_taken, idle_part, part_of, zero_words}
 use Rattle.snp_model.specs.Step.{line_at}
 use Rattle.snp_model.proofs.OpeningLaws.{page_or_before, opening_whole, opening_asid}
-use Rattle.snp_model.proofs.OpeningPages.{opening_large, whole_page}
+use Rattle.snp_model.proofs.LargePages.{whole_page}
+use Rattle.snp_model.proofs.OpeningPages.{opening_large}
 
 -- an actor has taken nothing
 parts_idle : (actors : List Actor) (k : ℕ) → (get_or (map opening_part actors) k idle_part).standing ≡ nothing_taken

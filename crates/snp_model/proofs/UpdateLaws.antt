@@ -14,7 +14,7 @@ use Rattle.snp_model.specs.Locks.{in_range, over, over_lock}
 use Rattle.snp_model.specs.RmpUpdate.{makes_immutable, immutable_kind, assigned_facts, updated_facts, updated_words, updated_page, pages_updated, smashed_page, pages_smashed}
 use Rattle.snp_model.specs.State.{Page, Pages, PageLock, Contents, zero_words}
 use Rattle.snp_model.proofs.CoreLaws.{KindFits, AreFit, core_shrinks}
-use Rattle.snp_model.proofs.UseLaws.{AreWhole, Before, Fine}
+use Rattle.snp_model.proofs.UseLaws.{AreWhole, metadata_not_plain, Before, Fine}
 
 -- a page after a change keeps what it holds of a guest, or holds nothing; a metadata page is the one that it was
 pub record Lessens (asid : ℕ) (new old : Page) : Type 0 where
@@ -67,9 +67,6 @@ over_frames P base count change pages beside inside f = cond_both (in_range base
 pub record IsUpdatable (update : Update) (first facts : RmpEntry) : Type 0 where
   pub mutable : facts.immutable ≡ false
   pub assigned : makes_immutable update first ≡ true → facts.assigned ≡ true
-
-metadata_not_plain : (kind : Kind) → kind ≡ kinds.Metadata → kind ≡ kinds.Plain → ⊥
-metadata_not_plain kind a b = cc
 
 plain_kind : (facts : RmpEntry) → KindFits facts → facts.immutable ≡ false → facts.kind ≡ kinds.Metadata → ⊥
 plain_kind facts fits mutable is = true≢false (sym (fits.immutable (λ (e : facts.kind ≡ kinds.Plain). metadata_not_plain facts.kind is e)) ∙ mutable)

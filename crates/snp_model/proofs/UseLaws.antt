@@ -1,5 +1,5 @@
 -- Each event keeps the one holder of each page, and finds in the guest's memory what it needs.
-use Rattle.std.proofs.Common.{◌≡◌, ◌≢◌, ℕ, ◌/◌, ◌<◌, Bool, true, false, not, ◌&&◌, ◌||◌, eqb, slice_index, List, [], ◌∷◌, length, Option, Some, None, refl, sym, ◌∙◌, subst, arith}
+use Rattle.std.proofs.Common.{◌≡◌, ◌≢◌, ℕ, ◌<◌, Bool, true, false, not, ◌&&◌, ◌||◌, eqb, slice_index, List, [], ◌∷◌, length, Option, Some, None, refl, sym, ◌∙◌, subst, arith}
 use Rattle.std.proofs.lemmas.Bool.{cond_both, eqb-true, eqb-false, true≢false}
 use Rattle.std.proofs.lemmas.Bool.Decides.{nat_tests}
 use Rattle.snp_model.specs.declared.access.Place.{Place}
@@ -25,14 +25,13 @@ use Rattle.snp_model.specs.declared.walk.Need.{Need}
 use Rattle.snp_model.specs.declared.walk.Need.TheVariants as needs
 use Rattle.snp_model.specs.declared.entry.PageSize.{PageSize}
 use Rattle.snp_model.specs.GuestWalk.{levels_of, is_canonical}
-use Rattle.snp_model.specs.Walking.{Processor, lookup_of, index_of}
+use Rattle.snp_model.specs.Walking.{Processor, index_of}
 use Rattle.snp_model.specs.Opening.{asid_of}
 use Rattle.snp_model.specs.Operations.{outcome_of}
-use Rattle.snp_model.specs.Skips.{skip_outcome}
 use Rattle.snp_model.specs.Verdicts.{private_verdict, private_refusal, shared_verdict, host_verdict, is_large, lacks}
-use Rattle.snp_model.specs.State.{Pages, Context, Contents, ActorPart, View, with_word, word_of}
+use Rattle.snp_model.specs.State.{Pages, Context, Contents, ActorPart, with_word, word_of}
 use Rattle.snp_model.specs.Moves.{Move, Arrival, is_running, quiet_move, misplaced_move, faulted_move, begin_move, table_move, need_move, walked_move, table_place}
-use Rattle.snp_model.specs.Step.{item_move, access_move, pages_after, data_move, host_access, data_place}
+use Rattle.snp_model.specs.Step.{access_move, pages_after, data_move, data_place}
 use Rattle.snp_model.specs.GuestMemory.{Memory, Use, Untouched, use_of_word, use_of, firmware_use, use_for, IsLegalUse, used}
 use Rattle.snp_model.specs.Live.{Archive, Vault, vault_of}
 use Rattle.snp_model.specs.Holders.{IsHeldAs, Core}
@@ -42,7 +41,7 @@ use Rattle.snp_model.proofs.CoreLaws.{KindFits, AreFit, with_word_facts, with_wo
 abbrev pub AreWhole : Pages → Type 0
 AreWhole pages = (f : ℕ) → length (pages f).words ≡ 512
 
-metadata_not_plain : (kind : Kind) → kind ≡ kinds.Metadata → kind ≡ kinds.Plain → ⊥
+pub metadata_not_plain : (kind : Kind) → kind ≡ kinds.Metadata → kind ≡ kinds.Plain → ⊥
 metadata_not_plain kind a b = cc
 
 no_metadata_free : (facts : RmpEntry) → KindFits facts → facts.assigned ≡ false → facts.kind ≢ kinds.Metadata
@@ -61,12 +60,10 @@ RoleOwns guest asid guests (Cpu owner vmpl npt paging) = Owns guest asid guests 
 RoleOwns guest asid guests Host = Unit {0}
 RoleOwns guest asid guests Firmware = Unit {0}
 
--- an item of which this is proved: no scenario has an instruction of the RMP or a command of the firmware yet
+-- an item of which this is proved: no scenario has a guest processor's instruction of the RMP or a command of the firmware yet
 abbrev pub IsProved : Role → Item → Type 0
 IsProved (Cpu owner vmpl npt paging) (items.Pvalidate address size validate) = ⊥
 IsProved (Cpu owner vmpl npt paging) (items.Rmpadjust address size target mask vmsa) = ⊥
-IsProved Host (items.Rmpupdate update) = ⊥
-IsProved Host (items.Psmash frame) = ⊥
 IsProved Firmware (items.Firmware command) = ⊥
 IsProved role item = Unit {0}
 
@@ -88,9 +85,9 @@ pub record MoveFine (guest asid : ℕ) (archive : Archive) (memory : Memory) (ol
   pub fine : Fine guest asid archive memory old move.contents (use_for guest move.contents role move.deed item move.outcome)
 
 -- an event that does nothing, whether it is a guest's processor's or the firmware's
-record IsIdle (deed : Deed) (item : Item) (outcome : Option Outcome) : Type 0 where
-  processors : use_of deed item outcome ≡ Untouched
-  firmware : (guest : ℕ) (left : Contents) → firmware_use guest left deed item outcome ≡ Untouched
+pub record IsIdle (deed : Deed) (item : Item) (outcome : Option Outcome) : Type 0 where
+  pub processors : use_of deed item outcome ≡ Untouched
+  pub firmware : (guest : ℕ) (left : Contents) → firmware_use guest left deed item outcome ≡ Untouched
 
 untouched_for : (guest : ℕ) (left : Contents) (role : Role) (deed : Deed) (item : Item) (outcome : Option Outcome) → IsIdle deed item outcome → use_for guest left role deed item outcome ≡ Untouched
 unfolding use_for
@@ -103,13 +100,13 @@ nothing_fine : (guest asid : ℕ) (archive : Archive) (memory : Memory) (old : C
 unfolding used
 nothing_fine guest asid archive memory old before = record { legal = tt; core = before.core; whole = before.whole; fits = before.fits }
 
-quiet_fine : (guest asid : ℕ) (archive : Archive) (memory : Memory) (old : Contents) (part : ActorPart) (role : Role) (item : Item) (deed : Deed) (outcome : Option Outcome)
+pub quiet_fine : (guest asid : ℕ) (archive : Archive) (memory : Memory) (old : Contents) (part : ActorPart) (role : Role) (item : Item) (deed : Deed) (outcome : Option Outcome)
     → Before guest asid archive memory old → IsIdle deed item outcome → MoveFine guest asid archive memory old role item (quiet_move old part deed outcome)
 quiet_fine guest asid archive memory old part role item deed outcome before e = record {
   fine = subst (λ (does : Use). Fine guest asid archive memory old old does) (sym (untouched_for guest old role deed item outcome e)) (nothing_fine guest asid archive memory old before);
 }
 
-misplaced_fine : (guest asid : ℕ) (archive : Archive) (memory : Memory) (old : Contents) (part : ActorPart) (role : Role) (item : Item)
+pub misplaced_fine : (guest asid : ℕ) (archive : Archive) (memory : Memory) (old : Contents) (part : ActorPart) (role : Role) (item : Item)
     → Before guest asid archive memory old → MoveFine guest asid archive memory old role item (misplaced_move old part)
 unfolding use_of firmware_use
 misplaced_fine guest asid archive memory old part role item before = quiet_fine guest asid archive memory old part role item deeds.Control (Some outcomes.Next) before (record { processors = refl; firmware = λ _ _. refl })
@@ -295,7 +292,7 @@ private_fine guest asid archive guests memory old part owner vmpl npt paging add
     (record { processors = private_faults (old.pages frame).facts place op outcome gpn index is; firmware = λ _ _. refl })
 
 -- a host access, by what the RMP says
-host_fine : (guest asid : ℕ) (archive : Archive) (memory : Memory) (old : Contents) (part : ActorPart) (item : Item) (op : Op) (frame index : ℕ) (verdict : Verdict)
+pub host_fine : (guest asid : ℕ) (archive : Archive) (memory : Memory) (old : Contents) (part : ActorPart) (item : Item) (op : Op) (frame index : ℕ) (verdict : Verdict)
     → Before guest asid archive memory old → host_verdict (old.pages frame).facts op ≡ verdict
     → MoveFine guest asid archive memory old Host item (access_move old part (deeds.Host frame index) verdict op frame index)
 unfolding access_move use_for
@@ -334,12 +331,12 @@ shared_fine guest asid archive memory old part role item op gpn frame index plac
     quiet_fine guest asid archive memory old part role item (deeds.Access gpn index frame false) (Some outcome) before (record { processors = refl; firmware = λ _ _. refl })
 
 -- what an item of a guest's processor does at the page that its walks have led to is fine
-abbrev ArrivesFine : ℕ → ℕ → Archive → Memory → Contents → Processor → Item → Arrival → Type 0
+abbrev pub ArrivesFine : ℕ → ℕ → Archive → Memory → Contents → Processor → Item → Arrival → Type 0
 ArrivesFine guest asid archive memory old cpu item arrives =
     (gpn : ℕ) (private : Bool) (frame : ℕ) (size : PageSize) → MoveFine guest asid archive memory old (Cpu cpu.guest cpu.vmpl cpu.npt cpu.paging) item (arrives gpn private frame size)
 
 -- so a data access, private or shared
-data_fine : (guest asid : ℕ) (archive : Archive) (guests : List GuestSpec) (memory : Memory) (old : Contents) (part : ActorPart) (cpu : Processor) (address : ℕ) (op : Op)
+pub data_fine : (guest asid : ℕ) (archive : Archive) (guests : List GuestSpec) (memory : Memory) (old : Contents) (part : ActorPart) (cpu : Processor) (address : ℕ) (op : Op)
     → Before guest asid archive memory old → Owns guest asid guests cpu.guest → ArrivesFine guest asid archive memory old cpu (items.Access address op) (data_move guests old part cpu address op)
 data_fine guest asid archive guests memory old part cpu address op before owns gpn true frame size =
     private_fine guest asid archive guests memory old part cpu.guest cpu.vmpl cpu.npt cpu.paging address op gpn frame (index_of address) (data_place (asid_of guests cpu.guest) cpu.vmpl address gpn true frame size) _
@@ -390,7 +387,7 @@ need_fine guest asid archive guests memory frames old part cpu item lookup arriv
 need_fine guest asid archive guests memory frames old part cpu item lookup arrives (needs.Fault outcome) before owns arrived =
     faulted_fine guest asid archive memory old part (Cpu cpu.guest cpu.vmpl cpu.npt cpu.paging) item before
 
-walked_fine : (guest asid : ℕ) (archive : Archive) (guests : List GuestSpec) (memory : Memory) (frames : ℕ) (old : Contents) (part : ActorPart) (cpu : Processor) (item : Item) (lookup : Lookup) (refusal : Option Outcome) (arrives : Arrival) (made : List Deed)
+pub walked_fine : (guest asid : ℕ) (archive : Archive) (guests : List GuestSpec) (memory : Memory) (frames : ℕ) (old : Contents) (part : ActorPart) (cpu : Processor) (item : Item) (lookup : Lookup) (refusal : Option Outcome) (arrives : Arrival) (made : List Deed)
     → Before guest asid archive memory old → Owns guest asid guests cpu.guest → ArrivesFine guest asid archive memory old cpu item arrives
     → MoveFine guest asid archive memory old (Cpu cpu.guest cpu.vmpl cpu.npt cpu.paging) item (walked_move frames guests old part cpu lookup refusal arrives made)
 unfolding walked_move
@@ -398,36 +395,3 @@ walked_fine guest asid archive guests memory frames old part cpu item lookup ref
     begin_fine guest asid archive memory old part (Cpu cpu.guest cpu.vmpl cpu.npt cpu.paging) item (old.contexts cpu.guest) (levels_of cpu.paging) lookup.address refusal before
 walked_fine guest asid archive guests memory frames old part cpu item lookup refusal arrives (deed ∷ others) before owns arrived =
     need_fine guest asid archive guests memory frames old part cpu item lookup arrives _ before owns arrived
-
--- so each item's move
-pub item_fine : (guest asid : ℕ) (archive : Archive) (guests : List GuestSpec) (memory : Memory) (frames : ℕ) (view : View) (part : ActorPart) (role : Role) (item : Item)
-    → Before guest asid archive memory view.contents → RoleOwns guest asid guests role → IsProved role item
-    → MoveFine guest asid archive memory view.contents role item (item_move frames guests view part role item)
-unfolding item_move host_access use_of firmware_use
-item_fine guest asid archive guests memory frames view part (Cpu owner vmpl npt paging) (items.Access address op) before owns known =
-    let cpu : Processor = record { guest = owner; vmpl = vmpl; npt = npt; paging = paging } in
-    walked_fine guest asid archive guests memory frames view.contents part cpu (items.Access address op) (lookup_of address op) None _ part.deeds before owns (data_fine guest asid archive guests memory view.contents part cpu address op before owns)
-item_fine guest asid archive guests memory frames view part (Cpu owner vmpl npt paging) (items.Pvalidate address size validate) before owns known = absurd known
-item_fine guest asid archive guests memory frames view part (Cpu owner vmpl npt paging) (items.Rmpadjust address size target mask vmsa) before owns known = absurd known
-item_fine guest asid archive guests memory frames view part (Cpu owner vmpl npt paging) (items.Rmpupdate update) before owns known = misplaced_fine guest asid archive memory view.contents part (Cpu owner vmpl npt paging) (items.Rmpupdate update) before
-item_fine guest asid archive guests memory frames view part (Cpu owner vmpl npt paging) (items.Psmash frame) before owns known = misplaced_fine guest asid archive memory view.contents part (Cpu owner vmpl npt paging) (items.Psmash frame) before
-item_fine guest asid archive guests memory frames view part (Cpu owner vmpl npt paging) (items.Firmware command) before owns known = misplaced_fine guest asid archive memory view.contents part (Cpu owner vmpl npt paging) (items.Firmware command) before
-item_fine guest asid archive guests memory frames view part (Cpu owner vmpl npt paging) (items.Skip count test) before owns known =
-    quiet_fine guest asid archive memory view.contents part (Cpu owner vmpl npt paging) (items.Skip count test) deeds.Control (Some (skip_outcome count test part.last)) before (record { processors = refl; firmware = λ _ _. refl })
-item_fine guest asid archive guests memory frames view part Host (items.Access address op) before owns known =
-    host_fine guest asid archive memory view.contents part (items.Access address op) op (address / 4096) (index_of address) _ before refl
-item_fine guest asid archive guests memory frames view part Host (items.Pvalidate address size validate) before owns known = misplaced_fine guest asid archive memory view.contents part Host (items.Pvalidate address size validate) before
-item_fine guest asid archive guests memory frames view part Host (items.Rmpadjust address size target mask vmsa) before owns known = misplaced_fine guest asid archive memory view.contents part Host (items.Rmpadjust address size target mask vmsa) before
-item_fine guest asid archive guests memory frames view part Host (items.Rmpupdate update) before owns known = absurd known
-item_fine guest asid archive guests memory frames view part Host (items.Psmash frame) before owns known = absurd known
-item_fine guest asid archive guests memory frames view part Host (items.Firmware command) before owns known = misplaced_fine guest asid archive memory view.contents part Host (items.Firmware command) before
-item_fine guest asid archive guests memory frames view part Host (items.Skip count test) before owns known =
-    quiet_fine guest asid archive memory view.contents part Host (items.Skip count test) deeds.Control (Some (skip_outcome count test part.last)) before (record { processors = refl; firmware = λ _ _. refl })
-item_fine guest asid archive guests memory frames view part Firmware (items.Access address op) before owns known = misplaced_fine guest asid archive memory view.contents part Firmware (items.Access address op) before
-item_fine guest asid archive guests memory frames view part Firmware (items.Pvalidate address size validate) before owns known = misplaced_fine guest asid archive memory view.contents part Firmware (items.Pvalidate address size validate) before
-item_fine guest asid archive guests memory frames view part Firmware (items.Rmpadjust address size target mask vmsa) before owns known = misplaced_fine guest asid archive memory view.contents part Firmware (items.Rmpadjust address size target mask vmsa) before
-item_fine guest asid archive guests memory frames view part Firmware (items.Rmpupdate update) before owns known = misplaced_fine guest asid archive memory view.contents part Firmware (items.Rmpupdate update) before
-item_fine guest asid archive guests memory frames view part Firmware (items.Psmash frame) before owns known = misplaced_fine guest asid archive memory view.contents part Firmware (items.Psmash frame) before
-item_fine guest asid archive guests memory frames view part Firmware (items.Firmware command) before owns known = absurd known
-item_fine guest asid archive guests memory frames view part Firmware (items.Skip count test) before owns known =
-    quiet_fine guest asid archive memory view.contents part Firmware (items.Skip count test) deeds.Control (Some (skip_outcome count test part.last)) before (record { processors = refl; firmware = λ _ _. refl })

@@ -1,5 +1,5 @@
 -- What every run keeps of the locks that its actors have taken: one holder each, whole pages of 2 MB, and what was tested (this project's own).
-use Rattle.std.specs.Prelude.{◌≡◌, ℕ, ◌/◌, Bool, true, if◌then◌else◌, List, get_or, Option, Some}
+use Rattle.std.specs.Prelude.{◌≡◌, ℕ, ◌/◌, true, if◌then◌else◌, List, get_or, Option, Some}
 use Rattle.std.specs.List.{list_any}
 use Rattle.snp_model.specs.declared.entry.PageSize.TheVariants.{Large}
 use Rattle.snp_model.specs.declared.scenario.GuestSpec.{GuestSpec}
