@@ -1,9 +1,10 @@
-ghost use Rattle.std.specs.Prelude.{ℕ, ◌*◌, ◌<◌, ◌≤◌, List, length};
+ghost use Rattle.std.specs.Prelude.{◌≡◌, ℕ, ◌*◌, ◌<◌, ◌≤◌, List, length};
+ghost use Rattle.snp_model.specs.declared.entry.PageSize.TheVariants.{Large};
 ghost use Rattle.snp_model.specs.declared.scenario.GuestSpec.{GuestSpec};
 ghost use Rattle.snp_model.specs.declared.scenario.Scenario.{Scenario};
 ghost use Rattle.snp_model.specs.Attempts.{attempts_of};
 ghost use Rattle.snp_model.specs.GuestMemory.{memory_after, opening_memory};
-ghost use Rattle.snp_model.specs.HeldLocks.{AreExclusive, AreTested};
+ghost use Rattle.snp_model.specs.HeldLocks.{AreExclusive, AreLocked, AreTested};
 ghost use Rattle.snp_model.specs.Holders.{Core};
 ghost use Rattle.snp_model.specs.Invariant.{IsUnique};
 ghost use Rattle.snp_model.specs.Live.{Archive, vault_of};
@@ -14,7 +15,7 @@ ghost use Rattle.snp_model.specs.Reading.{Valid};
 ghost use Rattle.snp_model.specs.Ready.{AreReady};
 ghost use Rattle.snp_model.specs.Room.{AreBounded};
 ghost use Rattle.snp_model.specs.Run.{IsDefined, state_after};
-ghost use Rattle.snp_model.specs.Shapes.{AreShaped};
+ghost use Rattle.snp_model.specs.Shapes.{AreShaped, IsWholePage};
 ghost use Rattle.snp_model.specs.State.{ActorPart, State, View, part_of};
 ghost use Rattle.snp_model.specs.Step.{event_of, step_of};
 ghost use Rattle.snp_model.specs.Touches.{AgreeBeside, SeeAlike, StepsAlike, touches};
@@ -62,10 +63,18 @@ pub fn machine_laws()
         → AreShaped (opening scenario) → IsDefined scenario schedule
         → AreTested (state_after scenario schedule) (part_of (state_after scenario schedule) actor) }
 
+    // In every run of a valid scenario a locked page stays as it was, and so does a locked context, for as long as its lock
+    // is held, and pages of 2 MB are whole.
+    ensures locked { (scenario : Scenario) (schedule : List ℕ)
+        → Valid scenario → IsDefined scenario schedule → AreLocked (state_after scenario schedule) }
+    ensures whole { (scenario : Scenario) (schedule : List ℕ) (frame : ℕ)
+        → Valid scenario → IsDefined scenario schedule → ((state_after scenario schedule).contents.pages frame).facts.size ≡ Large
+        → IsWholePage (state_after scenario schedule).contents.pages frame }
+
     // In every run each page of a declared guest has at most one holder, which has a page of the guest's memory with its
     // known words.
     ensures holders { (scenario : Scenario) (schedule : List ℕ) (archive : Archive) (guest : ℕ)
-        → Valid scenario → 0 < guest → guest ≤ length scenario.guests
+        → Valid scenario → IsDefined scenario schedule → 0 < guest → guest ≤ length scenario.guests
         → Core (asid_of scenario.guests guest) (vault_of guest (state_after scenario schedule).contents archive)
         (memory_after scenario schedule guest) }
 {}
