@@ -15,7 +15,7 @@ ghost use Rattle.snp_model.specs.ScenarioLines.{
   guest_row,
   is_declared,
   is_opened,
-  page_size,
+  page_unit,
   validity,
   collide,
   apart,
@@ -31,11 +31,13 @@ ghost use Rattle.snp_model.specs.ScenarioLines.{
 };
 
 use crate::taken::Taken;
+use script_text::instructions::read_size;
 use script_text::number::{
-    all_hex, digit_value, is_word, read_below, read_decimal, read_fixed, read_number, read_ranged,
+    all_hex, digit_value, is_word, multiple, read_below, read_decimal, read_fixed, read_number,
+    read_ranged,
 };
 use script_text::words::{Words, cut};
-use snp_model::{GuestSpec, PageSize, PageSpec, Paging, Reason, Role, Scenario, Turn, WordSpec};
+use snp_model::{GuestSpec, PageSpec, Paging, Reason, Role, Scenario, Turn, WordSpec};
 
 // The version of a text.
 #[tactic(auto, unfolding(snp_model::specs::ScenarioLines::version_of))]
@@ -181,16 +183,12 @@ fn is_opened(guests: &[GuestSpec], guest: u64) -> bool
     }
 }
 
-// The size of a page.
-#[tactic(auto, unfolding(snp_model::specs::ScenarioLines::page_size))]
-fn read_size(word: &[u8]) -> Result<PageSize, Reason>
-    ensures { result ≡ page_size word.now }
+// What the frame and the guest page number of a page are multiples of, by the word for its size.
+fn page_unit(word: &[u8]) -> u64
+    ensures unit { result ≡ page_unit word.now }
+    ensures some { 0 < result }
 {
-    if is_word(word, b"4k") {
-        Ok(PageSize::Small)
-    } else {
-        Err(Reason::Form)
-    }
+    if is_word(word, b"2m") { 512 } else { 1 }
 }
 
 // Whether a page is validated.
@@ -210,7 +208,8 @@ fn read_validity(word: &[u8]) -> Result<bool, Reason>
 // A page that collides with none of these, which are taken.
 #[tactic(auto, unfolding(snp_model::specs::ScenarioLines::apart))]
 fn keep_apart(pages: &[PageSpec], taken: &Taken, page: PageSpec) -> Result<PageSpec, Reason>
-    requires { Knows taken.now pages.now }
+    requires known { Knows taken.now pages.now }
+    requires gpn { page.gpn < 2 ^ 36 }
     ensures apart { result ≡ apart pages.now page }
     ensures same { IfOk result (λ kept. kept ≡ page) }
 {
@@ -231,11 +230,13 @@ pub fn read_page(scenario: &Scenario, taken: &Taken, words: &Words<'_>) -> Resul
     ensures row { result ≡ page_row scenario.now words.now }
     ensures gpn { IfOk result (λ page. page.gpn < 2 ^ 36) }
 {
-    let frame = read_below(u64::from(512 * scenario.regions), words.at(1))?;
+    let first_frame = read_below(u64::from(512 * scenario.regions), words.at(1))?;
+    let frame = multiple(page_unit(words.at(6)), first_frame)?;
     read_fixed(words.at(2), b"of")?;
     let guest = read_number(words.at(3))?;
     read_fixed(words.at(4), b"at")?;
-    let gpn = read_below(1 << 36, words.at(5))?;
+    let first_gpn = read_below(1 << 36, words.at(5))?;
+    let gpn = multiple(page_unit(words.at(6)), first_gpn)?;
     let size = read_size(words.at(6))?;
     let valid = read_validity(words.at(7))?;
     let first = read_below(16, words.at(8))?;

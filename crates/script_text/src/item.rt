@@ -13,10 +13,12 @@ ghost use Rattle.snp_model.specs.ItemLines.{
   skip_value_row,
   skip_item,
   access_item,
+  host_item,
   item_words,
   item_line,
 };
 
+use crate::instructions::{read_smash, read_update};
 use crate::number::{is_word, multiple, read_below, read_fixed, read_number, read_ranged};
 use crate::words::Words;
 use snp_model::{Item, Line, Op, Reason, Role, SkipTest};
@@ -200,13 +202,27 @@ fn read_access_item(role: &Role, frames: u32, words: &Words<'_>) -> Result<Line,
     }
 }
 
+// The items of a hypervisor processor.
+#[tactic(auto, unfolding(snp_model::specs::ItemLines::host_item))]
+fn read_host_item(frames: u32, words: &Words<'_>) -> Result<Line, Reason>
+    ensures { result ≡ host_item frames words.now }
+{
+    if words.is_retry_row(b"rmpupdate", 7) {
+        read_update(words)
+    } else if words.is_retry_row(b"psmash", 2) {
+        read_smash(words)
+    } else {
+        read_access_item(&Role::Host, frames, words)
+    }
+}
+
 /// The item that the words of a line say, for an actor with this role, in a memory of `frames` frames.
 pub fn read_item_words(role: &Role, frames: u32, words: &Words<'_>) -> Result<Line, Reason>
     ensures { result ≡ item_words role.now frames words.now }
 {
     match role {
         Role::Cpu { .. } => read_access_item(role, frames, words),
-        Role::Host => read_access_item(role, frames, words),
+        Role::Host => read_host_item(frames, words),
         Role::Firmware => read_skip_item(words),
     }
 }

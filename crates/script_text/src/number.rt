@@ -207,7 +207,8 @@ pub fn read_below(end: u64, word: &[u8]) -> Result<u64, Reason>
 #[tactic(auto, unfolding(snp_model::specs::Lines::multiple))]
 pub fn multiple(unit: u64, n: u64) -> Result<u64, Reason>
     requires { 0 < unit }
-    ensures { result ≡ multiple unit n }
+    ensures read { result ≡ multiple unit n }
+    ensures same { IfOk result (λ m. m ≡ n) }
 {
     if n % unit == 0 {
         Ok(n)

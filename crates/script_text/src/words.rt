@@ -1,5 +1,6 @@
 ghost use Rattle.std.specs.Prelude.{
   ◌≡◌,
+  ◌⊎◌,
   ℕ,
   true,
   false,
@@ -24,6 +25,7 @@ ghost use Rattle.std.specs.Prelude.{
 ghost use Rattle.std.specs.Bool.{OnTrue};
 ghost use Rattle.std.specs.List.{list_all, position_or_len};
 ghost use Rattle.snp_model.specs.Lines.{parts_at, cut_at, words_of, word, most_words, is_row, is_printable, is_plain};
+ghost use Rattle.snp_model.specs.ItemLines.{is_retry_row};
 ghost use Rattle.script_text.specs.Pieces.{ends_word};
 
 use crate::number::is_word;
@@ -162,5 +164,15 @@ impl<'a> Words<'a> {
         ensures { result ≡ is_row self.now name.now count }
     {
         self.count() == count && is_word(self.at(0), name)
+    }
+
+    /// Whether the line has this first word, and this many words or two more for `retry N`.
+    #[inline(always)]
+    pub fn is_retry_row(&self, name: &[u8], count: usize) -> bool
+        requires { count ≤ 15 }
+        ensures row { result ≡ is_retry_row self.now name.now count }
+        ensures count { OnTrue result ((length self.now ≡ count) ⊎ (length self.now ≡ count + 2)) }
+    {
+        self.is_row(name, count) || self.is_row(name, count + 2)
     }
 }
