@@ -15,6 +15,11 @@ use std::test::Fail;
 const OPENING: &str =
     "snp 1\nregions 1\nguest 1 opened asid 1 iv 0 key 0000000000000000000000000000000000000000000000000000000000000000\nguest 2 opened asid 2 iv 0 key 0000000000000000000000000000000000000000000000000000000000000000\npage 8 of 1 at 0 4k valid 0 0 0\npage 9 of 1 at 1 4k valid 0 0 0\npage 10 of 1 at 2 4k invalid 0 0 0\npage 11 of 2 at 3 4k valid 0 0 0\npage 12 of 1 at 4 4k valid 0 0 0\nword 8 2 6\nword 9 0 0x2003\nword 12 0 0x8000000000003\nword 8 2 7\nword 13 2 9\nend\n";
 
+// Guest 1 opens with pages 0x400 to 0x5ff: frames 512 to 1023, which are a page of 2 MB. A word of its first frame and one of its
+// last aren't 0.
+const LARGE_OPENING: &str =
+    "snp 1\nregions 2\nguest 1 opened asid 1 iv 0 key 0000000000000000000000000000000000000000000000000000000000000000\npage 512 of 1 at 0x400 2m valid 0 0 0\nword 512 0 3\nword 1023 511 6\nend\n";
+
 // What an event is answered.
 #[derive(Clone, Copy, Debug, PartialEq, Eq)]
 enum Answer {
@@ -352,6 +357,35 @@ fn launched(rt: HostRuntime) -> Result<(), Fail> {
             want,
             "{event:?}"
         );
+    }
+    Ok(())
+}
+
+// The pages of a page of 2 MB are held at the opening, each with the words of its own frame.
+#[test]
+fn opened_large(rt: HostRuntime) -> Result<(), Fail> {
+    let scenario = read_scenario(rt.alloc(), LARGE_OPENING.as_bytes())?;
+    let mut memory = GuestMemory::build(rt.alloc(), &scenario, 1)?;
+    let cases = [
+        (private(0x400, 0, 512, load(3)), access(LOAD), MADE),
+        (private(0x400, 511, 512, load(6)), access(LOAD), other(0, 6)),
+        (private(0x401, 0, 513, load(3)), access(LOAD), other(0, 3)),
+        (private(0x5ff, 511, 1023, load(6)), access(LOAD), MADE),
+        (private(0x3ff, 0, 511, STORED), store(6), not_held(0)),
+        (private(0x600, 0, 1024, STORED), store(6), not_held(0)),
+        // Once one of them is rescinded, the ones beside it stay.
+        (commit(0x401, Small, false), pvalidate(Small, false), MADE),
+        (private(0x401, 0, 513, STORED), store(6), not_held(0)),
+        (private(0x400, 0, 512, load(3)), access(LOAD), MADE),
+        (private(0x402, 0, 514, load(0)), access(LOAD), MADE),
+        // The whole page is rescinded.
+        (commit(0x400, Large, false), pvalidate(Large, false), MADE),
+        (private(0x400, 0, 512, STORED), store(6), not_held(0)),
+        (private(0x5ff, 511, 1023, STORED), store(6), not_held(0)),
+    ];
+    for (event, item, want) in cases {
+        assert!(rt; is_in_range(&event.deed));
+        assert_eq!(rt; told(memory.apply(&event, &item)), want, "{event:?}");
     }
     Ok(())
 }
