@@ -17,7 +17,7 @@ use Rattle.snp_model.specs.Ready.{AreReady}
 use Rattle.snp_model.specs.Shapes.{AreShaped}
 use Rattle.snp_model.specs.Sound.{IsSound}
 use Rattle.snp_model.specs.State.{ActorPart, Page, State, zero_words}
-use Rattle.snp_model.proofs.LockedRuns.{opening_keeps_locks}
+use Rattle.snp_model.proofs.LockedRuns.{opening_keeps_locks, shaped_whole}
 use Rattle.snp_model.proofs.ReadyLaws.{opening_ready}
 use Rattle.machine_core.specs.Machine.{IsMachine, state_of}
 use Rattle.machine_core.specs.declared.bay.Bay.{Bay}
@@ -112,12 +112,6 @@ opening_sees c bays guests actors built =
     ∙ (λ i. record { contents = contents_of (own_stock bays) guests; holder = λ f. sym (opening_holder 1 c.actors f) i; context_holder = λ guest. sym (opening_context_holder 1 c.actors guest) i })
     ∙ ap (λ (parts : List ActorPart). view_of (state_of (machine_with bays guests parts))) (sym built.actors_are)
 
--- pages of 2 MB are whole
-whole_pages : (m : State) → AreShaped m → AreWholePages m.contents.pages
-whole_pages m shaped = record {
-  large = λ f g large same. ap (λ (facts : RmpEntry). facts.size) ((shaped.whole f large).together g (sym same)).alike ∙ large;
-}
-
 length_parts : (actors : List Actor) → length (map opening_part actors) ≡ length actors
 length_parts [] = refl
 length_parts (actor ∷ actors) = ap suc (length_parts actors)
@@ -132,6 +126,6 @@ built_machine c bays guests actors sound shaped built =
       few_guests = subst (λ (n : ℕ). n ≤ 8) (sym (ap length built.guests_are)) sound.guests_most;
       few = subst (λ (n : ℕ). n ≤ 32) (sym (ap length built.actors_are ∙ length_parts c.actors)) sound.actors_most;
       ready = subst AreReady is (opening_ready c sound);
-      locks = subst KeepsLocks is (opening_keeps_locks c (whole_pages (opening c) shaped));
+      locks = subst KeepsLocks is (opening_keeps_locks c (shaped_whole (opening c) shaped));
       sees = opening_sees c bays guests actors built;
     }

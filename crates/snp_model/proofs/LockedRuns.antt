@@ -178,7 +178,7 @@ opening_keeps_locks c whole = record {
 }
 
 -- whole pages of 2 MB have frames of one size
-shaped_whole : (m : State) → AreShaped m → AreWholePages m.contents.pages
+pub shaped_whole : (m : State) → AreShaped m → AreWholePages m.contents.pages
 shaped_whole m shaped = record {
   large = λ f g large same.
       let page = (shaped.whole f large).together g (sym same) in
