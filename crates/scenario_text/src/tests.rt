@@ -2,7 +2,7 @@ use crate::{ScenarioFault, read_scenario};
 use script_text::read_item;
 use snp_model::{
     GuestSpec, Item, Line, Op, PageSize, PageSpec, Paging, Quantity, Reason, Role, Scenario,
-    SkipTest, Turn, WordSpec,
+    SkipTest, Turn, Update, WordSpec,
 };
 use std::alloc::Global;
 use std::test::Fail;
@@ -179,8 +179,87 @@ const REFUSED: [(&str, u32, Reason); 52] = [
     ("snp 1\nregions 1\nend\n# a comment", 4, Reason::Cut),
 ];
 
+// The same of texts with pages of 2 MB.
+const REFUSED_LARGE_PAGES: [(&str, u32, Reason); 15] = [
+    (
+        "snp 1\nregions 2\nguest 1 opened asid 5 iv 0 key 00000000000000000000000000000000000000000000000000000000000000ff\npage 1 of 1 at 0 2m valid 0 0 0\n",
+        4,
+        Reason::Align,
+    ),
+    (
+        "snp 1\nregions 2\nguest 1 opened asid 5 iv 0 key 00000000000000000000000000000000000000000000000000000000000000ff\npage 1 to 1 at 0 2m valid 0 0 0\n",
+        4,
+        Reason::Align,
+    ),
+    (
+        "snp 1\nregions 2\nguest 1 opened asid 5 iv 0 key 00000000000000000000000000000000000000000000000000000000000000ff\npage 1025 of 1 at 0 2m valid 0 0 0\n",
+        4,
+        Reason::Range,
+    ),
+    (
+        "snp 1\nregions 2\nguest 1 opened asid 5 iv 0 key 00000000000000000000000000000000000000000000000000000000000000ff\npage 512 of 1 at 1 2m valid 0 0 0\n",
+        4,
+        Reason::Align,
+    ),
+    (
+        "snp 1\nregions 2\nguest 1 opened asid 5 iv 0 key 00000000000000000000000000000000000000000000000000000000000000ff\npage 512 of 1 at 511 2m true 0 0 0\n",
+        4,
+        Reason::Align,
+    ),
+    (
+        "snp 1\nregions 2\nguest 1 opened asid 5 iv 0 key 00000000000000000000000000000000000000000000000000000000000000ff\npage 512 to 1 at 1 2m valid 0 0 0\n",
+        4,
+        Reason::Form,
+    ),
+    (
+        "snp 1\nregions 2\nguest 1 opened asid 5 iv 0 key 00000000000000000000000000000000000000000000000000000000000000ff\npage 512 of 1 at 0x1000000001 2m valid 0 0 0\n",
+        4,
+        Reason::Range,
+    ),
+    (
+        "snp 1\nregions 2\nguest 1 opened asid 5 iv 0 key 00000000000000000000000000000000000000000000000000000000000000ff\npage 1 of 1 at 1 2M valid 0 0 0\n",
+        4,
+        Reason::Form,
+    ),
+    (
+        "snp 1\nregions 2\nguest 1 opened asid 5 iv 0 key 00000000000000000000000000000000000000000000000000000000000000ff\npage 1 of one at 1 1g valid 0 0 0\n",
+        4,
+        Reason::Number,
+    ),
+    (
+        "snp 1\nregions 2\nguest 1 opened asid 5 iv 0 key 00000000000000000000000000000000000000000000000000000000000000ff\npage 512 of 2 at 512 2m valid 0 0 0\n",
+        4,
+        Reason::Guest,
+    ),
+    (
+        "snp 1\nregions 2\nguest 1 opened asid 5 iv 0 key 00000000000000000000000000000000000000000000000000000000000000ff\npage 0 of 1 at 512 2m valid 0 0 0\npage 511 of 1 at 0 4k valid 0 0 0\n",
+        5,
+        Reason::Repeat,
+    ),
+    (
+        "snp 1\nregions 2\nguest 1 opened asid 5 iv 0 key 00000000000000000000000000000000000000000000000000000000000000ff\npage 511 of 1 at 0 4k valid 0 0 0\npage 0 of 1 at 512 2m valid 0 0 0\n",
+        5,
+        Reason::Repeat,
+    ),
+    (
+        "snp 1\nregions 2\nguest 1 opened asid 5 iv 0 key 00000000000000000000000000000000000000000000000000000000000000ff\npage 0 of 1 at 512 2m valid 0 0 0\npage 512 of 1 at 1023 4k valid 0 0 0\n",
+        5,
+        Reason::Repeat,
+    ),
+    (
+        "snp 1\nregions 2\nguest 1 opened asid 5 iv 0 key 00000000000000000000000000000000000000000000000000000000000000ff\npage 512 of 1 at 1023 4k valid 0 0 0\npage 0 of 1 at 512 2m valid 0 0 0\n",
+        5,
+        Reason::Repeat,
+    ),
+    (
+        "snp 1\nregions 2\nguest 1 opened asid 5 iv 0 key 00000000000000000000000000000000000000000000000000000000000000ff\npage 0 of 1 at 512 2m valid 0 0 0\npage 512 of 1 at 512 2m valid 0 0 0\n",
+        5,
+        Reason::Repeat,
+    ),
+];
+
 // Texts that pass a limit, with its count.
-const LIMITED: [(&str, Quantity, u64); 4] = [
+const LIMITED: [(&str, Quantity, u64); 5] = [
     ("snp 1\nregions 17\n", Quantity::Regions, 17),
     (
         "snp 1\nregions 1\norder 1*262144 2\n",
@@ -196,6 +275,11 @@ const LIMITED: [(&str, Quantity, u64); 4] = [
         "snp 1\nregions 1\nactor 1 host\nactor 2 host\nactor 3 host\nactor 4 host\nactor 5 host\nactor 6 host\nactor 7 host\nactor 8 host\nactor 9 host\nactor 10 host\nactor 11 host\nactor 12 host\nactor 13 host\nactor 14 host\nactor 15 host\nactor 16 host\nactor 17 host\nactor 18 host\nactor 19 host\nactor 20 host\nactor 21 host\nactor 22 host\nactor 23 host\nactor 24 host\nactor 25 host\nactor 26 host\nactor 27 host\nactor 28 host\nactor 29 host\nactor 30 host\nactor 31 host\nactor 32 host\nactor 33 host\n",
         Quantity::Actors,
         33,
+    ),
+    (
+        "snp 1\nregions 1\nactor 1 host\npsmash 0 retry 255\npsmash 0 retry 255\npsmash 0 retry 255\npsmash 0 retry 255\npsmash 0 retry 255\npsmash 0 retry 255\npsmash 0 retry 255\npsmash 0 retry 255\npsmash 0 retry 255\npsmash 0 retry 255\npsmash 0 retry 255\npsmash 0 retry 255\npsmash 0 retry 255\npsmash 0 retry 255\npsmash 0 retry 255\npsmash 0 retry 255\npsmash 0 retry 255\npsmash 0 retry 255\npsmash 0 retry 255\npsmash 0 retry 255\npsmash 0 retry 255\npsmash 0 retry 255\npsmash 0 retry 255\npsmash 0 retry 255\npsmash 0 retry 255\npsmash 0 retry 255\npsmash 0 retry 255\npsmash 0 retry 255\npsmash 0 retry 255\npsmash 0 retry 255\npsmash 0 retry 255\npsmash 0 retry 255\nload 0\n",
+        Quantity::Attempts,
+        8193,
     ),
 ];
 
@@ -215,7 +299,7 @@ fn is_limited(alloc: Global, text: &str, of: Quantity, most: u64) -> bool {
 
 // A text with a line of each form.
 const WHOLE: &str =
-    "snp 2\nregions 1\nguest 1 opened asid 5 iv 0 key 00000000000000000000000000000000000000000000000000000000000000ff\npage 0x3 of 1 at 7 4k invalid 1 2 0xf\nword 3 511 0xffffffffffffffff\n# actors\nactor 1 cpu 1 vmpl 3 npt 9 flat\nload 8\nstore 0xfffffffffffffff8 2\nswap 0x10 5\ncas 0x10 5 6\nxor 0x10 3\nskip 1 if ok\nactor 2 host\nstore 0x1ffff8 0\nload 0x1ffff8\nskip 2 if bad\nskip 8192 if value 7\nactor 3 cpu 1 vmpl 1 npt 0x1ff gcr3 0xfffffffff\nload 0\nactor 4 cpu 1 vmpl 1 npt 511 la57 1\norder 1*2 2\n\norder 7\nend\n";
+    "snp 2\nregions 2\nguest 1 opened asid 5 iv 0 key 00000000000000000000000000000000000000000000000000000000000000ff\npage 0x3 of 1 at 7 4k invalid 1 2 0xf\npage 512 of 1 at 0xffffffe00 2m valid 4 5 6\npage 511 of 1 at 0xffffffdff 4k valid 0 0 0\nword 3 511 0xffffffffffffffff\n# actors\nactor 1 cpu 1 vmpl 3 npt 9 flat\nload 8\nstore 0xfffffffffffffff8 2\nswap 0x10 5\ncas 0x10 5 6\nxor 0x10 3\nskip 1 if ok\nactor 2 host\nstore 0x1ffff8 0\nload 0x1ffff8\nrmpupdate 3 4k 0 0 0 0\npsmash 512 retry 2\nskip 2 if bad\nskip 8192 if value 7\nactor 3 cpu 1 vmpl 1 npt 0x1ff gcr3 0xfffffffff\nload 0\nactor 4 cpu 1 vmpl 1 npt 511 la57 1\norder 1*2 2\n\norder 7\nend\n";
 
 fn access(address: u64, op: Op) -> Item {
     Item::Access { address, op }
@@ -331,11 +415,15 @@ fn is_refused_item(role: &Role, line: &str, why: Reason) -> bool {
     }
 }
 
-fn is_item(role: &Role, line: &str, item: Item) -> bool {
+fn is_line(role: &Role, line: &str, expected: Line) -> bool {
     match read_item(role, line.as_bytes(), 512) {
-        Ok(read) => read == once(item),
+        Ok(read) => read == expected,
         Err(_) => false,
     }
+}
+
+fn is_item(role: &Role, line: &str, item: Item) -> bool {
+    is_line(role, line, once(item))
 }
 
 #[test]
@@ -395,6 +483,112 @@ fn lines_of_items(rt: HostRuntime) {
     }
 }
 
+// Lines of instructions that are refused.
+const REFUSED_INSTRUCTIONS: [(Role, &str, Reason); 25] = [
+    (Role::Host, "rmpupdate 3 4k 1 5 7", Reason::Form),
+    (Role::Host, "rmpupdate 3 4k 1 5 7 0 1", Reason::Form),
+    (Role::Host, "rmpupdate 3 4k 1 5 7 0 retry", Reason::Form),
+    (Role::Host, "rmpupdate x 1g 1 5 7 0", Reason::Number),
+    (Role::Host, "rmpupdate 3 1g 2 5 7 0", Reason::Form),
+    (Role::Host, "rmpupdate 3 4k 2 x 7 0", Reason::Range),
+    (Role::Host, "rmpupdate 3 4k yes 1024 7 0", Reason::Number),
+    (Role::Host, "rmpupdate 3 4k 1 1024 x 0", Reason::Range),
+    (
+        Role::Host,
+        "rmpupdate 3 4k 1 5 0x1000000000 2",
+        Reason::Range,
+    ),
+    (Role::Host, "rmpupdate 3 4k 1 5 7 2 again 0", Reason::Range),
+    (Role::Host, "rmpupdate 3 4k 1 5 7 0 again 0", Reason::Form),
+    (Role::Host, "rmpupdate 3 4k 1 5 7 0 retry 0", Reason::Range),
+    (
+        Role::Host,
+        "rmpupdate 3 4k 1 5 7 0 retry 256",
+        Reason::Range,
+    ),
+    (
+        Role::Host,
+        "rmpupdate 3 4k 1 5 7 0 retry one",
+        Reason::Number,
+    ),
+    (Role::Host, "psmash", Reason::Form),
+    (Role::Host, "psmash 512 retry", Reason::Form),
+    (Role::Host, "psmash 512 retry 1 2", Reason::Form),
+    (Role::Host, "psmash x again 0", Reason::Number),
+    (Role::Host, "psmash 512 again 0", Reason::Form),
+    (Role::Host, "psmash 512 retry 0", Reason::Range),
+    (Role::Host, "load 0x10 retry 1", Reason::Form),
+    (CPU, "rmpupdate 3 4k 1 5 7 0", Reason::Form),
+    (CPU, "psmash 512", Reason::Form),
+    (Role::Firmware, "rmpupdate 3 4k 1 5 7 0", Reason::Form),
+    (Role::Firmware, "psmash 512 retry 1", Reason::Form),
+];
+
+// The greatest of each operand.
+const GREATEST: Update = Update {
+    frame: u64::MAX,
+    size: PageSize::Large,
+    assigned: true,
+    asid: 1023,
+    gpn: 0xf_ffff_ffff,
+    immutable: true,
+};
+
+// One that frees a frame.
+const FREEING: Update = Update {
+    frame: 3,
+    size: PageSize::Small,
+    assigned: false,
+    asid: 0,
+    gpn: 0,
+    immutable: false,
+};
+
+// Each of the two flags alone.
+const ASSIGNING: Update = Update {
+    assigned: true,
+    ..FREEING
+};
+
+const FIXING: Update = Update {
+    immutable: true,
+    ..FREEING
+};
+
+fn retried(item: Item, retries: u8) -> Line {
+    Line { item, retries }
+}
+
+#[test]
+fn lines_of_instructions(rt: HostRuntime) {
+    for (role, line, reason) in REFUSED_INSTRUCTIONS {
+        assert!(rt; is_refused_item(&role, line, reason), "{line}");
+    }
+    for (line, expected) in [
+        (
+            "rmpupdate 0xffffffffffffffff 2m 1 1023 0xfffffffff 1",
+            once(Item::Rmpupdate(GREATEST)),
+        ),
+        (
+            "rmpupdate 18446744073709551615 2m 0x1 0x3ff 68719476735 0x1 retry 255",
+            retried(Item::Rmpupdate(GREATEST), 255),
+        ),
+        ("rmpupdate 3 4k 0 0 0 0", once(Item::Rmpupdate(FREEING))),
+        ("rmpupdate 3 4k 1 0 0 0", once(Item::Rmpupdate(ASSIGNING))),
+        (
+            "rmpupdate 3 4k 0 0 0 1 retry 1",
+            retried(Item::Rmpupdate(FIXING), 1),
+        ),
+        ("psmash 512", once(Item::Psmash { frame: 512 })),
+        (
+            "psmash 0xffffffffffffffff retry 0x10",
+            retried(Item::Psmash { frame: u64::MAX }, 16),
+        ),
+    ] {
+        assert!(rt; is_line(&Role::Host, line, expected), "{line}");
+    }
+}
+
 fn is_whole(scenario: &Scenario) -> bool {
     let mut key = [0; 32];
     key[31] = 0xff;
@@ -403,14 +597,6 @@ fn is_whole(scenario: &Scenario) -> bool {
         asid: 5,
         iv: 0,
         key,
-    };
-    let page = PageSpec {
-        frame: 3,
-        guest: 1,
-        gpn: 7,
-        size: PageSize::Small,
-        valid: false,
-        perms: [1, 2, 15],
     };
     let word = WordSpec {
         frame: 3,
@@ -423,12 +609,41 @@ fn is_whole(scenario: &Scenario) -> bool {
         Turn { actor: 7, count: 1 },
     ];
     scenario.version == 2
-        && scenario.regions == 1
+        && scenario.regions == 2
         && scenario.guests.as_slice() == [guest].as_slice()
-        && scenario.pages.as_slice() == [page].as_slice()
+        && are_pages(scenario)
         && scenario.words.as_slice() == [word].as_slice()
         && scenario.order.as_slice() == turns.as_slice()
         && are_actors(scenario)
+}
+
+// A page of 2 MB at the end of memory and of its guest's pages, between two others.
+fn are_pages(scenario: &Scenario) -> bool {
+    let small = PageSpec {
+        frame: 3,
+        guest: 1,
+        gpn: 7,
+        size: PageSize::Small,
+        valid: false,
+        perms: [1, 2, 15],
+    };
+    let large = PageSpec {
+        frame: 512,
+        guest: 1,
+        gpn: 0xf_ffff_fe00,
+        size: PageSize::Large,
+        valid: true,
+        perms: [4, 5, 6],
+    };
+    let beside = PageSpec {
+        frame: 511,
+        guest: 1,
+        gpn: 0xf_ffff_fdff,
+        size: PageSize::Small,
+        valid: true,
+        perms: [0, 0, 0],
+    };
+    scenario.pages.as_slice() == [small, large, beside].as_slice()
 }
 
 fn are_actors(scenario: &Scenario) -> bool {
@@ -443,6 +658,8 @@ fn are_actors(scenario: &Scenario) -> bool {
     let host_items = [
         once(access(0x1f_fff8, Op::Store(0))),
         once(access(0x1f_fff8, Op::Load)),
+        once(Item::Rmpupdate(FREEING)),
+        retried(Item::Psmash { frame: 512 }, 2),
         once(skip(2, SkipTest::Bad)),
         once(skip(8192, SkipTest::Value(7))),
     ];
@@ -458,6 +675,13 @@ fn are_actors(scenario: &Scenario) -> bool {
                 && fourth.script.is_empty()
         }
         _ => false,
+    }
+}
+
+#[test]
+fn large_pages(rt: HostRuntime) {
+    for (text, line, reason) in REFUSED_LARGE_PAGES {
+        assert!(rt; is_refused(rt.alloc(), text, line, reason), "{text}");
     }
 }
 

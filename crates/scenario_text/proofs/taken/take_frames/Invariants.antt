@@ -1,4 +1,4 @@
-use Rattle.std.proofs.Common.{◌≡◌, ℕ, ◌+◌, ◌-◌, ◌≤◌, false, ◌||◌, length, get_or}
+use Rattle.std.proofs.Common.{◌≡◌, ℕ, ◌-◌, ◌≤◌, false, ◌||◌, length, get_or}
 use Rattle.snp_model.specs.Locks.{in_range}
 use Rattle.scenario_text.proofs.taken.take_frames.Given as goal
 
