@@ -258,7 +258,7 @@ after_view false bays frame index value bay there = ap pages_of (sym (put_same b
 -- the move of an access with a verdict, over the bay of its frame
 access_view : (stock : Stock) (guests : List GuestSpec) (part : ActorPart) (deed : Deed) (frame index : ℕ) (bay : Bay) (op : Op) (verdict : Verdict) → stock.bays (frame / 512) ≡ Some bay
     → access_move (contents_of stock guests) part deed verdict op frame index
-    ≡ move_by (record { deed = deed; outcome = Some (answer_by verdict op (word_at bay.memory (frame % 512) index)) }) (view_on (stock_with (frame / 512) (with_memory bay (memory_by verdict op bay.memory (frame % 512) index)) stock) guests) part.standing
+    ≡ move_by (record { deed = deed; outcome = Some (answer_by verdict op (word_at bay.memory (frame % 512) index)); lock = None }) (view_on (stock_with (frame / 512) (with_memory bay (memory_by verdict op bay.memory (frame % 512) index)) stock) guests) part.standing
 unfolding access_move
 access_view stock guests part deed frame index bay op Pass there =
     let word_is : word_of (pages_of stock.bays frame) index ≡ word_at bay.memory (frame % 512) index = ap (λ (p : Page). word_of p index) (page_there stock.bays frame bay there) in
@@ -280,17 +280,17 @@ pub record IsAccessed (stock new_stock : Stock) (frame slot index : ℕ) (bay : 
 
 pub accessed : (stock new_stock : Stock) (frame slot index : ℕ) (bay : Bay) (memory : List (List ℕ)) (op : Op) (verdict : RmpEntry → Verdict) (outcome : Outcome) → IsAccessed stock new_stock frame slot index bay memory op verdict outcome
     → (guests : List GuestSpec) (part : ActorPart) (deed : Deed)
-    → access_move (contents_of stock guests) part deed (verdict (pages_of stock.bays frame).facts) op frame index ≡ move_by (record { deed = deed; outcome = Some outcome }) (view_on new_stock guests) part.standing
+    → access_move (contents_of stock guests) part deed (verdict (pages_of stock.bays frame).facts) op frame index ≡ move_by (record { deed = deed; outcome = Some outcome; lock = None }) (view_on new_stock guests) part.standing
 accessed stock new_stock frame slot index bay memory op verdict outcome made guests part deed =
     let outcome_at = λ (s : ℕ). answer_by (verdict (facts_at bay.rmp s)) op (word_at bay.memory s index) in
     let memory_at = λ (s : ℕ). memory_by (verdict (facts_at bay.rmp s)) op bay.memory s index in
-    let leaves = λ (o : Outcome) (m : List (List ℕ)). move_by (record { deed = deed; outcome = Some o }) (view_on (stock_with (frame / 512) (with_memory bay m) stock) guests) part.standing in
+    let leaves = λ (o : Outcome) (m : List (List ℕ)). move_by (record { deed = deed; outcome = Some o; lock = None }) (view_on (stock_with (frame / 512) (with_memory bay m) stock) guests) part.standing in
     ap (λ (p : Page). access_move (contents_of stock guests) part deed (verdict p.facts) op frame index) (page_there stock.bays frame bay made.there)
     ∙ access_view stock guests part deed frame index bay op (verdict (facts_at bay.rmp (frame % 512))) made.there
     ∙ ap (λ (s : ℕ). leaves (outcome_at s) (memory_at s)) (sym made.slot_is)
     ∙ ap (λ (o : Outcome). leaves o (memory_at slot)) (sym made.outcome_is)
     ∙ ap (leaves outcome) (sym made.memory_is)
-    ∙ ap (λ (s : Stock). move_by (record { deed = deed; outcome = Some outcome }) (view_on s guests) part.standing) (sym made.stock_is)
+    ∙ ap (λ (s : Stock). move_by (record { deed = deed; outcome = Some outcome; lock = None }) (view_on s guests) part.standing) (sym made.stock_is)
 
 pub accessed_locks : (stock new_stock : Stock) (frame slot index : ℕ) (bay : Bay) (memory : List (List ℕ)) (op : Op) (verdict : RmpEntry → Verdict) (outcome : Outcome) → IsAccessed stock new_stock frame slot index bay memory op verdict outcome → locks_of new_stock ≡ locks_of stock
 accessed_locks stock new_stock frame slot index bay memory op verdict outcome made = locks_stay stock new_stock (frame / 512) bay (with_memory bay memory) made.there refl made.stock_is

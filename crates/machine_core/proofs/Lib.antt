@@ -4,6 +4,7 @@ pub mod BuildingLaws
 pub mod CpuLaws
 pub mod MachineLaws
 pub mod OpeningLaws
+pub mod RangeLaws
 pub mod SeeingLaws
 pub mod SkipLaws
 pub mod TouchLaws

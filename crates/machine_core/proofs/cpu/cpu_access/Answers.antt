@@ -45,7 +45,7 @@ returns-then-is_empty-clause-moves g c =
     let walker = c.args.walker.now in
     let view = view_on (g.P.Parts.stock c.args.parts.now) c.args.guests.now in
     walk_begins c.args.frames c.args.guests.now view c.args.actor.now (processor_of walker.cpu) walker.lookup None _ c.args.actor.now.deeds (grind (arith, common_steps))
-    ∙ c.begin.ensures view c.args.actor.now
+    ∙ c.begin.ensures.moves view c.args.actor.now
 
 pub returns-in-Table-clause-moves : goal.returns-in-Table-clause-moves
 returns-in-Table-clause-moves g c =

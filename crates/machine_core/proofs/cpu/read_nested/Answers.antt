@@ -1,4 +1,4 @@
-use Rattle.std.proofs.Common.{◌≡◌, [], ◌∷◌, ◌++◌, List, ℕ, sym, ap, subst, ◌∙◌}
+use Rattle.std.proofs.Common.{◌≡◌, [], ◌∷◌, ◌++◌, List, ℕ, None, sym, ap, subst, ◌∙◌}
 use Rattle.snp_model.specs.declared.event.Deed.TheVariants.{Nested}
 use Rattle.snp_model.specs.Moves.{table_word}
 use Rattle.snp_model.specs.Walking.{walk_need, need_after, fault_of}
@@ -18,7 +18,7 @@ returns g c =
     c.fault_by_nested.ensures
     ∙ (λ i. fault_of (walk_need c.args.frames walker.cpu.npt walker.lookup (c.requires.stands i) (c.nested_words-words.ensures i ++ value i ∷ [])))
     ∙ ap fault_of (sym (nested_read_more c.args.frames (processor_of walker.cpu) walker.lookup deeds c.args.frame c.args.index word)) in
-    λ i. record { deed = Nested c.args.frame c.args.index (value i); outcome = fault i }
+    λ i. record { deed = Nested c.args.frame c.args.index (value i); outcome = fault i; lock = None }
 
 pub fault_by_nested-requires-clause-reads : goal.fault_by_nested-requires-clause-reads
 fault_by_nested-requires-clause-reads g c =

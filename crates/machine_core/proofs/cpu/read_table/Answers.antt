@@ -1,4 +1,4 @@
-use Rattle.std.proofs.Common.{◌≡◌, ℕ, [], ◌∷◌, ◌++◌, Option, Some, sym, ap, ◌∙◌}
+use Rattle.std.proofs.Common.{◌≡◌, ℕ, [], ◌∷◌, ◌++◌, Option, None, Some, sym, ap, ◌∙◌}
 use Rattle.snp_model.specs.declared.event.Deed.TheVariants.{Table}
 use Rattle.snp_model.specs.declared.event.Outcome.{Outcome}
 use Rattle.snp_model.specs.Walking.{guest_stands, walk_need, need_after, fault_of}
@@ -18,5 +18,5 @@ returns-in-Ok g c =
     c.fault_by_table.ensures frames walker.cpu.npt
     ∙ (λ i. fault_of (walk_need frames walker.cpu.npt walker.lookup (guest_stands walker.cpu.paging walker.lookup (c.guest_words.ensures i ++ c.in-Ok.word ∷ [])) []))
     ∙ ap fault_of (sym (table_read_more frames (processor_of walker.cpu) walker.lookup deeds place.gpn place.index c.args.frame c.in-Ok.word)) in
-    (λ i. record { deed = Table place.gpn place.index c.args.frame (Some c.in-Ok.word); outcome = fault i })
+    (λ i. record { deed = Table place.gpn place.index c.args.frame (Some c.in-Ok.word); outcome = fault i; lock = None })
     ∙ ap (λ (load : Result ℕ Outcome). table_shown load place.gpn place.index c.args.frame faults) (sym c.in-Ok.is ∙ c.guest_table_word.ensures)
