@@ -1,5 +1,5 @@
 -- What a change of a range in the bay of its region leaves of the flat memory and of its locks.
-use Rattle.std.proofs.Common.{◌≡◌, ◌≢◌, ℕ, ◌+◌, ◌-◌, ◌/◌, ◌%◌, ◌<◌, ◌≤◌, Bool, true, false, not, ◌&&◌, ◌||◌, cond, eqb, List, [], ◌∷◌, Option, None, Some, refl, sym, ap, ◌∙◌, subst, ⊎_elim, arith}
+use Rattle.std.proofs.Common.{◌≡◌, ◌≢◌, ℕ, ◌+◌, ◌-◌, ◌/◌, ◌%◌, ◌<◌, ◌≤◌, Bool, true, false, not, ◌&&◌, ◌||◌, IsSome, is_some, cond, eqb, List, [], ◌∷◌, Option, None, Some, refl, sym, ap, ◌∙◌, subst, ⊎_elim, arith}
 use Rattle.std.proofs.lemmas.Bool.{cases_eq, true≢false}
 use Rattle.std.proofs.lemmas.Bool.Decides.{nat_tests}
 use Rattle.snp_model.specs.declared.entry.PageSize.{PageSize}
@@ -14,7 +14,7 @@ use Rattle.machine_core.specs.declared.bay.Bay.{Bay}
 use Rattle.machine_core.specs.Bays.{Bays, Stock, holder_in, holders_of, page_in, pages_of, put, stock_with}
 
 -- what is read of a bay by slot, read by frame
-abbrev by_frame : {A : Type 0} → (Option Bay → ℕ → A) → Bays → ℕ → A
+abbrev pub by_frame : {A : Type 0} → (Option Bay → ℕ → A) → Bays → ℕ → A
 by_frame read bays f = read (bays (f / 512)) (f % 512)
 
 -- a bay was put where another was
@@ -41,6 +41,18 @@ read_beside : {A : Type 0} (read : Option Bay → ℕ → A) (stock new_stock : 
     → (f : ℕ) → f / 512 ≢ region → by_frame read new_stock.bays f ≡ by_frame read stock.bays f
 read_beside read stock new_stock region old new is f apart =
     ap (λ (s : Stock). by_frame read s.bays f) is.stock_is ∙ ap (λ (o : Option Bay). read o (f % 512)) (put_off stock.bays region new (f / 512) apart)
+
+-- what is read at a place of a range whose bay is there
+pub read_in : {A : Type 0} (read : Option Bay → ℕ → A) (bays : Bays) (bay : Bay) (base place : ℕ) → bays (base / 512) ≡ Some bay → base % 512 + place < 512
+    → by_frame read bays (base + place) ≡ read (Some bay) (base % 512 + place)
+read_in read bays bay base place there within =
+    let region : (base + place) / 512 ≡ base / 512 = omega arith in
+    let slot : (base + place) % 512 ≡ base % 512 + place = omega arith in
+    (λ i. read (bays (region i)) (slot i)) ∙ ap (λ (o : Option Bay). read o (base % 512 + place)) there
+
+-- the bay that is there is one
+pub some_there : (bays : Bays) (region : ℕ) (bay : Bay) → bays region ≡ Some bay → IsSome (bays region)
+some_there bays region bay there = ap is_some there
 
 -- a range that lies in one region, by frame and by slot
 range_here : (base count f : ℕ) → base % 512 + count ≤ 512 → f / 512 ≡ base / 512 → in_range (base % 512) count (f % 512) ≡ in_range base count f
