@@ -1,5 +1,5 @@
 -- What a written bay leaves of the flat memory.
-use Rattle.std.proofs.Common.{◌≡◌, ◌≢◌, ℕ, ◌/◌, ◌%◌, ◌<◌, ◌≤◌, Bool, true, false, cond, List, [], length, get_or, set, Option, None, Some, refl, sym, ap, ◌∙◌, subst, ⊎_elim, arith}
+use Rattle.std.proofs.Common.{◌≡◌, ◌≢◌, ℕ, ◌+◌, ◌-◌, ◌/◌, ◌%◌, ◌<◌, ◌≤◌, Bool, true, false, cond, List, [], length, get_or, set, Option, None, Some, refl, sym, ap, ◌∙◌, subst, ⊎_elim, arith}
 use Rattle.std.proofs.lemmas.Bool.{cases_eq, cases_lt}
 use Rattle.std.proofs.lemmas.Bool.Decides.{nat_tests}
 use Rattle.std.proofs.lemmas.List.{get_or-set_same, get_or-set_other, set_past, get_or_past}
@@ -7,6 +7,8 @@ use Rattle.snp_model.specs.declared.access.Place.{Place}
 use Rattle.snp_model.specs.declared.access.Verdict.{Verdict}
 use Rattle.snp_model.specs.declared.access.Verdict.TheVariants.{Pass, Hidden, Fault}
 use Rattle.snp_model.specs.declared.entry.RmpEntry.{RmpEntry}
+use Rattle.snp_model.specs.declared.entry.PageSize.{PageSize}
+use Rattle.snp_model.specs.declared.entry.PageSize.TheVariants.{Small, Large}
 use Rattle.snp_model.specs.declared.event.Deed.{Deed}
 use Rattle.snp_model.specs.declared.event.Outcome.{Outcome}
 use Rattle.snp_model.specs.declared.event.Outcome.TheVariants as outcomes
@@ -14,8 +16,9 @@ use Rattle.snp_model.specs.declared.item.Op.{Op}
 use Rattle.snp_model.specs.declared.item.Op.TheVariants.{Load}
 use Rattle.snp_model.specs.declared.scenario.GuestSpec.{GuestSpec}
 use Rattle.snp_model.specs.Accesses.{answer_by, memory_by}
-use Rattle.snp_model.specs.Entries.{facts_at}
-use Rattle.snp_model.specs.Facts.{free_entry}
+use Rattle.snp_model.specs.Entries.{HasOneHolder, IsRegionEntry, facts_at, facts_within, holder_at, with_entry}
+use Rattle.snp_model.specs.Facts.{frames_in}
+use Rattle.snp_model.specs.Locks.{in_range, over}
 use Rattle.snp_model.specs.Operations.{writes, outcome_of, word_after}
 use Rattle.snp_model.specs.Opening.{with_word_spec}
 use Rattle.snp_model.specs.RegionWords.{page_at, word_at, word_set}
@@ -23,7 +26,9 @@ use Rattle.snp_model.specs.State.{Page, ActorPart, with_word, word_of}
 use Rattle.snp_model.specs.Moves.{memory_move, quiet_move, table_word}
 use Rattle.snp_model.specs.Step.{access_move}
 use Rattle.machine_core.specs.declared.bay.Bay.{Bay}
-use Rattle.machine_core.specs.Bays.{Bays, Stock, contents_of, facts_of, holder_in, holders_of, locks_of, page_in, pages_of, put, stock_with, view_on, with_entry, words_of}
+use Rattle.machine_core.specs.Bays.{Bays, IsWholeRegion, Stock, contents_of, facts_of, holder_in, holders_of, locks_of, page_in, pages_of, put, stock_with, view_on, words_of}
+use Rattle.snp_model.proofs.LockLaws.{not_true}
+use Rattle.snp_model.proofs.RangeLaws.{over_beside}
 use Rattle.snp_model.specs.Verdicts.{private_verdict}
 use Rattle.machine_core.specs.Moves.{move_by, table_load}
 
@@ -168,67 +173,104 @@ pub facts_there : (bays : Bays) (frame : ℕ) (bay : Bay) → bays (frame / 512)
 unfolding facts_of
 facts_there bays frame bay there = ap (λ (p : Page). p.facts) (page_there bays frame bay there)
 
--- a bay with another entry was put
+-- the page of a frame of a region whose bay is there, or was written, and of a frame beside the region
+page_of_there : (bays : Bays) (region : ℕ) (bay : Bay) (f : ℕ) → bays region ≡ Some bay → f / 512 ≡ region → pages_of bays f ≡ page_in (Some bay) (f % 512)
+unfolding pages_of
+page_of_there bays region bay f there here = ap (λ (o : Option Bay). page_in o (f % 512)) (ap bays here ∙ there)
+
+page_of_put : (bays : Bays) (region : ℕ) (bay : Bay) (f : ℕ) → f / 512 ≡ region → pages_of (put region bay bays) f ≡ page_in (Some bay) (f % 512)
+unfolding pages_of
+page_of_put bays region bay f here = ap (λ (o : Option Bay). page_in o (f % 512)) (put_at bays region bay (f / 512) here)
+
+page_beside : (bays : Bays) (region : ℕ) (bay : Bay) (f : ℕ) → f / 512 ≢ region → pages_of (put region bay bays) f ≡ pages_of bays f
+unfolding pages_of
+page_beside bays region bay f apart = ap (λ (o : Option Bay). page_in o (f % 512)) (put_off bays region bay (f / 512) apart)
+
+-- the holder of a frame of a region whose bay is there
+holder_there : (bays : Bays) (region : ℕ) (bay : Bay) (f : ℕ) → bays region ≡ Some bay → f / 512 ≡ region → holders_of bays f ≡ holder_at bay.rmp (f % 512)
+unfolding holders_of
+holder_there bays region bay f there here = ap (λ (o : Option Bay). holder_in o (f % 512)) (ap bays here ∙ there)
+
+-- where the frames of a region have one holder, so do the slots of its bay
+one_holder_there : (stock : Stock) (frame : ℕ) (bay : Bay) → stock.bays (frame / 512) ≡ Some bay → frame % 512 ≡ 0
+    → ((f : ℕ) → f / 512 ≡ frame / 512 → holders_of stock.bays f ≡ holders_of stock.bays frame) → HasOneHolder bay.rmp
+one_holder_there stock frame bay there first one slot below =
+    let here : (frame + slot) / 512 ≡ frame / 512 = omega arith in
+    let at : (frame + slot) % 512 ≡ slot = omega arith in
+    ap (holder_at bay.rmp) (sym at)
+    ∙ sym (holder_there stock.bays (frame / 512) bay (frame + slot) there here)
+    ∙ one (frame + slot) here
+    ∙ holder_there stock.bays (frame / 512) bay frame there refl
+    ∙ ap (holder_at bay.rmp) first
+
+-- so the entry of a page of 2 MB may be written there
+pub region_entry : (stock : Stock) (frame : ℕ) (bay : Bay) (entry : RmpEntry) → stock.bays (frame / 512) ≡ Some bay → IsWholeRegion stock frame entry → IsRegionEntry bay.rmp (frame % 512) entry
+region_entry stock frame bay entry there whole = record {
+  assigned = whole.assigned;
+  first = whole.first;
+  aligned = whole.aligned;
+  one_holder = one_holder_there stock frame bay there whole.first whole.one_holder;
+}
+
+-- a range of slots that is changed is one of frames
+same_range : (frame count f : ℕ) → f / 512 ≡ frame / 512 → in_range (frame % 512) count (f % 512) ≡ in_range frame count f
+same_range frame count f here = grind (arith, nat_tests)
+
+over_slots : {X : Type 0} (kept kept' : ℕ → X) (frame count f : ℕ) (change : ℕ → X → X) → f / 512 ≡ frame / 512 → kept (f % 512) ≡ kept' f
+    → over (frame % 512) count change kept (f % 512) ≡ over frame count change kept' f
+over_slots kept kept' frame count f change here same =
+    let tests = same_range frame count f here in
+    let place : f % 512 - frame % 512 ≡ f - frame = omega arith in
+    λ i. cond (tests i) (change (place i) (same i)) (same i)
+
+-- a page that begins at a frame has no frame of another region
+page_within : (size : PageSize) (frame : ℕ) → (size ≡ Large → frame % 512 ≡ 0) → frame % 512 + frames_in size ≤ 512
+page_within Small frame first = omega arith
+page_within Large frame first = omega (arith, first refl)
+
+range_beside : (frame count f : ℕ) → frame % 512 + count ≤ 512 → f / 512 ≢ frame / 512 → in_range frame count f ≡ false
+range_beside frame count f within apart =
+    not_true (in_range frame count f) (λ inside.
+    let low : frame ≤ f = grind (arith, nat_tests) in
+    let high : f < frame + count = grind (arith, nat_tests) in
+    apart (omega arith))
+
+-- a bay with another entry of a page, which begins at a frame, was put
 pub record IsWritten (stock new_stock : Stock) (frame : ℕ) (entry : RmpEntry) (bay new : Bay) : Type 0 where
   pub there : stock.bays (frame / 512) ≡ Some bay
-  pub whole : length bay.rmp.facts ≡ 512
+  pub first : entry.size ≡ Large → frame % 512 ≡ 0
   pub memory_is : new.memory ≡ bay.memory
-  pub facts_are : new.rmp.facts ≡ set bay.rmp.facts (frame % 512) entry
+  pub facts_are : facts_at new.rmp ≡ with_entry (frame % 512) entry (facts_at bay.rmp)
   pub locks_are : new.rmp.holders ≡ bay.rmp.holders
   pub stock_is : new_stock ≡ stock_with (frame / 512) new stock
-
-entry_stays : (stock new_stock : Stock) (frame : ℕ) (entry : RmpEntry) (bay new : Bay) → IsWritten stock new_stock frame entry bay new → OtherSlotsStay bay new (frame % 512)
-entry_stays stock new_stock frame entry bay new written s other =
-    λ i. record {
-      facts = (ap (λ (fs : List RmpEntry). get_or fs s free_entry) written.facts_are ∙ get_or-set_other bay.rmp.facts (frame % 512) s entry free_entry other) i;
-      words = page_at (written.memory_is i) s;
-    }
-
-entry_page : (stock new_stock : Stock) (frame : ℕ) (entry : RmpEntry) (bay new : Bay) → IsWritten stock new_stock frame entry bay new → pages_of new_stock.bays frame ≡ record { facts = entry; words = (pages_of stock.bays frame).words }
-entry_page stock new_stock frame entry bay new written =
-    let within : frame % 512 < length bay.rmp.facts = omega (arith, written.whole) in
-    ap (λ (s : Stock). pages_of s.bays frame) written.stock_is
-    ∙ page_put stock.bays frame new
-    ∙ (λ i. record {
-      facts = (ap (λ (fs : List RmpEntry). get_or fs (frame % 512) free_entry) written.facts_are ∙ get_or-set_same bay.rmp.facts (frame % 512) entry free_entry within) i;
-      words = page_at (written.memory_is i) (frame % 512);
-    })
-    ∙ ap (λ (p : Page). let page : Page = record { facts = entry; words = p.words } in page) (sym (page_there stock.bays frame bay written.there))
-
-entry_off : (stock new_stock : Stock) (frame : ℕ) (entry : RmpEntry) (bay new : Bay) → IsWritten stock new_stock frame entry bay new → (f : ℕ) → f ≢ frame → pages_of new_stock.bays f ≡ pages_of stock.bays f
-entry_off stock new_stock frame entry bay new written f other =
-    ap (λ (s : Stock). pages_of s.bays f) written.stock_is
-    ∙ page_off stock.bays frame bay new written.there (entry_stays stock new_stock frame entry bay new written) f other
-
-with_entry_at : (frame : ℕ) (entry : RmpEntry) (facts : ℕ → RmpEntry) (f : ℕ) → f ≡ frame → with_entry frame entry facts f ≡ entry
-with_entry_at frame entry facts f same = grind (arith, nat_tests)
-
-with_entry_off : (frame : ℕ) (entry : RmpEntry) (facts : ℕ → RmpEntry) (f : ℕ) → f ≢ frame → with_entry frame entry facts f ≡ facts f
-with_entry_off frame entry facts f other = grind (arith, nat_tests)
 
 written_fact : (stock new_stock : Stock) (frame : ℕ) (entry : RmpEntry) (bay new : Bay) → IsWritten stock new_stock frame entry bay new → (f : ℕ) → facts_of new_stock.bays f ≡ with_entry frame entry (facts_of stock.bays) f
 unfolding facts_of
 written_fact stock new_stock frame entry bay new written f =
-    ⊎_elim
-    (λ (same : f ≡ frame).
-    ap (λ (n : ℕ). (pages_of new_stock.bays n).facts) same
-    ∙ ap (λ (p : Page). p.facts) (entry_page stock new_stock frame entry bay new written)
-    ∙ sym (with_entry_at frame entry (λ (n : ℕ). (pages_of stock.bays n).facts) f same))
-    (λ (other : f ≢ frame).
-    ap (λ (p : Page). p.facts) (entry_off stock new_stock frame entry bay new written f other)
-    ∙ sym (with_entry_off frame entry (λ (n : ℕ). (pages_of stock.bays n).facts) f other))
-    (cases_eq f frame)
+    let before = λ (n : ℕ). (pages_of stock.bays n).facts in
+    let count = frames_in entry.size in
+    ap (λ (s : Stock). (pages_of s.bays f).facts) written.stock_is
+    ∙ ⊎_elim
+    (λ (here : f / 512 ≡ frame / 512).
+    ap (λ (p : Page). p.facts) (page_of_put stock.bays (frame / 512) new f here)
+    ∙ (λ i. written.facts_are i (f % 512))
+    ∙ over_slots (facts_at bay.rmp) before frame count f (λ place old. facts_within entry place) here (ap (λ (p : Page). p.facts) (sym (page_of_there stock.bays (frame / 512) bay f written.there here))))
+    (λ (apart : f / 512 ≢ frame / 512).
+    ap (λ (p : Page). p.facts) (page_beside stock.bays (frame / 512) new f apart)
+    ∙ over_beside frame count (λ place old. facts_within entry place) before f (range_beside frame count f (page_within entry.size frame written.first) apart))
+    (cases_eq (f / 512) (frame / 512))
 
 written_word : (stock new_stock : Stock) (frame : ℕ) (entry : RmpEntry) (bay new : Bay) → IsWritten stock new_stock frame entry bay new → (f : ℕ) → words_of new_stock.bays f ≡ words_of stock.bays f
 unfolding words_of
 written_word stock new_stock frame entry bay new written f =
-    ⊎_elim
-    (λ (same : f ≡ frame).
-    ap (λ (n : ℕ). (pages_of new_stock.bays n).words) same
-    ∙ ap (λ (p : Page). p.words) (entry_page stock new_stock frame entry bay new written)
-    ∙ ap (λ (n : ℕ). (pages_of stock.bays n).words) (sym same))
-    (λ (other : f ≢ frame). ap (λ (p : Page). p.words) (entry_off stock new_stock frame entry bay new written f other))
-    (cases_eq f frame)
+    ap (λ (s : Stock). (pages_of s.bays f).words) written.stock_is
+    ∙ ⊎_elim
+    (λ (here : f / 512 ≡ frame / 512).
+    ap (λ (p : Page). p.words) (page_of_put stock.bays (frame / 512) new f here)
+    ∙ ap (λ (memory : List (List ℕ)). page_at memory (f % 512)) written.memory_is
+    ∙ ap (λ (p : Page). p.words) (sym (page_of_there stock.bays (frame / 512) bay f written.there here)))
+    (λ (apart : f / 512 ≢ frame / 512). ap (λ (p : Page). p.words) (page_beside stock.bays (frame / 512) new f apart))
+    (cases_eq (f / 512) (frame / 512))
 
 pub written_facts : (stock new_stock : Stock) (frame : ℕ) (entry : RmpEntry) (bay new : Bay) → IsWritten stock new_stock frame entry bay new → facts_of new_stock.bays ≡ with_entry frame entry (facts_of stock.bays)
 written_facts stock new_stock frame entry bay new written = λ i f. written_fact stock new_stock frame entry bay new written f i

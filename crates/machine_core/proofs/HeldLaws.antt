@@ -30,7 +30,6 @@ use Rattle.machine_core.specs.Bays.{HasFrame, HasTouched, Stock, contents_of, ho
 use Rattle.machine_core.specs.Moves.{lock_shown, locks_by, locks_left, move_by, standing_by, with_taken}
 use Rattle.machine_core.specs.Ranges.{HoldsLock, HoldsNone}
 use Rattle.machine_core.proofs.RangeLaws.{relocked_none}
-use Rattle.machine_core.proofs.TouchLaws.{frame_has}
 
 -- an item of a guest's processor has locked nothing
 pub cpu_rests : (frames : ℕ) (guests : List GuestSpec) (contents : Contents) (guest vmpl npt : ℕ) (paging : Paging) (item : Item) (made : List Deed) (standing : Standing)
@@ -94,7 +93,7 @@ holds_lock actor part lock stock owns are =
 pub lock_has : (refused : Bool) (frame : ℕ) (locks : List PageLock) (stock : Stock) → HasTouched (instruction_touches refused frame locks) stock → nat_lt 0 (length locks) ≡ false → refused ≡ false → HasFrame stock frame
 unfolding instruction_touches
 lock_has true frame locks stock has none fine = absurd (true≢false fine)
-lock_has false frame [] stock has none fine = frame_has frame stock has
+lock_has false frame [] stock has none fine = has frame (grind (arith, nat_tests))
 lock_has false frame (lock ∷ others) stock has none fine = absurd (true≢false none)
 
 pub commit_has : (refused : Bool) (frame : ℕ) (locks : List PageLock) (stock : Stock) → HasTouched (instruction_touches refused frame locks) stock → nat_lt 0 (length locks) ≡ true → HasFrame stock frame

@@ -1,23 +1,28 @@
 -- The opening: that a machine may be built of a sound scenario, and that it is then in the opening state.
-use Rattle.std.proofs.Common.{◌≡◌, ℕ, zero, suc, ◌*◌, ◌/◌, ◌%◌, replicate, ◌<◌, ◌≤◌, ◌^◌, List, [], ◌∷◌, length, map, None, refl, sym, ap, ◌∙◌, subst, arith}
+use Rattle.std.proofs.Common.{◌≡◌, ℕ, zero, suc, ◌+◌, ◌*◌, ◌/◌, ◌%◌, replicate, ◌<◌, ◌≤◌, ◌^◌, List, [], ◌∷◌, length, map, None, refl, sym, ap, ◌∙◌, subst, arith}
 use Rattle.std.specs.Prelude.{slice_get}
 use Rattle.std.proofs.lemmas.List.{get_or-replicate}
 use Rattle.std.specs.List.{AllByRecursion}
+use Rattle.snp_model.specs.declared.entry.RmpEntry.{RmpEntry}
 use Rattle.snp_model.specs.declared.item.Line.{Line}
 use Rattle.snp_model.specs.declared.scenario.Actor.{Actor}
 use Rattle.snp_model.specs.declared.scenario.GuestSpec.{GuestSpec}
 use Rattle.snp_model.specs.declared.scenario.Scenario.{Scenario}
 use Rattle.snp_model.specs.Attempts.{script_attempts, actors_attempts, attempts_of}
 use Rattle.snp_model.specs.Facts.{free_entry}
+use Rattle.snp_model.specs.KeptLocks.{AreWholePages, KeepsLocks}
+use Rattle.snp_model.specs.Locks.{context_holder_from, holder_from, view_of}
 use Rattle.snp_model.specs.Opening.{opening, opening_part, opening_contexts, facts_from, words_from}
 use Rattle.snp_model.specs.Ready.{AreReady}
+use Rattle.snp_model.specs.Shapes.{AreShaped}
 use Rattle.snp_model.specs.Sound.{IsSound}
-use Rattle.snp_model.specs.State.{ActorPart, Page, zero_words}
+use Rattle.snp_model.specs.State.{ActorPart, Page, State, zero_words}
+use Rattle.snp_model.proofs.LockedRuns.{opening_keeps_locks}
 use Rattle.snp_model.proofs.ReadyLaws.{opening_ready}
 use Rattle.machine_core.specs.Machine.{IsMachine, state_of}
 use Rattle.machine_core.specs.declared.bay.Bay.{Bay}
-use Rattle.machine_core.specs.Bays.{facts_of, free_bay, holder_in, holders_of, locks_of, no_locks, own_bays, own_stock, page_in, pages_of, words_of}
-use Rattle.machine_core.proofs.SeeingLaws.{machine_with, sees_none}
+use Rattle.machine_core.specs.Bays.{contents_of, facts_of, free_bay, holder_in, holders_of, locks_of, no_locks, own_bays, own_stock, page_in, pages_of, view_on, words_of}
+use Rattle.machine_core.proofs.SeeingLaws.{machine_with}
 
 length_script : (lines : List Line) → length lines ≤ script_attempts lines
 unfolding script_attempts
@@ -88,19 +93,45 @@ opened c bays guests actors built =
       actors = built.actors_are i;
     }
 
+-- no actor has locked anything
+opening_holder : (first : ℕ) (actors : List Actor) (f : ℕ) → holder_from first (map opening_part actors) f ≡ None
+unfolding holder_from
+opening_holder first [] f = refl
+opening_holder first (actor ∷ actors) f = opening_holder (first + 1) actors f
+
+opening_context_holder : (first : ℕ) (actors : List Actor) (guest : ℕ) → context_holder_from first (map opening_part actors) guest ≡ None
+unfolding context_holder_from
+opening_context_holder first [] guest = refl
+opening_context_holder first (actor ∷ actors) guest = opening_context_holder (first + 1) actors guest
+
+-- so an event sees what it would see in the state: no lock
+opening_sees : (c : Scenario) (bays : List Bay) (guests : List GuestSpec) (actors : List ActorPart) → IsBuilt c bays guests actors
+    → view_on (own_stock bays) guests ≡ view_of (state_of (machine_with bays guests actors))
+opening_sees c bays guests actors built =
+    (λ i. record { contents = contents_of (own_stock bays) guests; holder = (built.locks i).holder; context_holder = (built.locks i).context_holder })
+    ∙ (λ i. record { contents = contents_of (own_stock bays) guests; holder = λ f. sym (opening_holder 1 c.actors f) i; context_holder = λ guest. sym (opening_context_holder 1 c.actors guest) i })
+    ∙ ap (λ (parts : List ActorPart). view_of (state_of (machine_with bays guests parts))) (sym built.actors_are)
+
+-- pages of 2 MB are whole
+whole_pages : (m : State) → AreShaped m → AreWholePages m.contents.pages
+whole_pages m shaped = record {
+  large = λ f g large same. ap (λ (facts : RmpEntry). facts.size) ((shaped.whole f large).together g (sym same)).alike ∙ large;
+}
+
 length_parts : (actors : List Actor) → length (map opening_part actors) ≡ length actors
 length_parts [] = refl
 length_parts (actor ∷ actors) = ap suc (length_parts actors)
 
 -- and it is a machine
-pub built_machine : (c : Scenario) (bays : List Bay) (guests : List GuestSpec) (actors : List ActorPart) → IsSound c → IsBuilt c bays guests actors
+pub built_machine : (c : Scenario) (bays : List Bay) (guests : List GuestSpec) (actors : List ActorPart) → IsSound c → AreShaped (opening c) → IsBuilt c bays guests actors
     → IsMachine (machine_with bays guests actors)
-built_machine c bays guests actors sound built =
-    let ready = subst AreReady (sym (opened c bays guests actors built)) (opening_ready c sound) in
+built_machine c bays guests actors sound shaped built =
+    let is = sym (opened c bays guests actors built) in
     record {
       few_regions = subst (λ (n : ℕ). n ≤ 16) (sym built.regions) sound.regions_most;
       few_guests = subst (λ (n : ℕ). n ≤ 8) (sym (ap length built.guests_are)) sound.guests_most;
       few = subst (λ (n : ℕ). n ≤ 32) (sym (ap length built.actors_are ∙ length_parts c.actors)) sound.actors_most;
-      ready = ready;
-      sees = sees_none bays guests actors ready built.locks;
+      ready = subst AreReady is (opening_ready c sound);
+      locks = subst KeepsLocks is (opening_keeps_locks c (whole_pages (opening c) shaped));
+      sees = opening_sees c bays guests actors built;
     }

@@ -77,7 +77,7 @@ first_unheld frames frame actor stock region bay found there none held =
     none frame (first_holder stock.bays bay frame (smash_first frames frame found.fine) (ap stock.bays (sym found.region_is) ∙ there) ∙ held)
 
 -- a page that passes is of 2 MB, and its lock covers the region
-is_large_size : (size : PageSize) → is_large size ≡ true → size ≡ Large
+pub is_large_size : (size : PageSize) → is_large size ≡ true → size ≡ Large
 is_large_size Small large = absurd (true≢false (sym large))
 is_large_size Large large = refl
 
@@ -88,7 +88,7 @@ in_memory facts holder = refl
 large_passes : (facts : RmpEntry) (holder : Option ℕ) → smash_page_refusal facts holder ≡ None → facts.size ≡ Large
 large_passes facts holder passes = is_large_size facts.size (smash_passes 1 0 facts holder (in_memory facts holder ∙ passes)).large
 
-page_base : (frame : ℕ) → frame % 512 ≡ 0 → frame / 512 * 512 ≡ frame
+pub page_base : (frame : ℕ) → frame % 512 ≡ 0 → frame / 512 * 512 ≡ frame
 page_base frame first = omega arith
 
 pub page_shown : (frames frame : ℕ) (stock : Stock) (region : ℕ) (bay : Bay) (taken : TakenLock) (shown : Shown) → IsFound (is_bad_smash frames frame) frame region → stock.bays region ≡ Some bay

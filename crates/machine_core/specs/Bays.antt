@@ -85,13 +85,16 @@ facts_of bays f = (pages_of bays f).facts
 unfoldable pub words_of : Bays → ℕ → List ℕ
 words_of bays f = (pages_of bays f).words
 
--- entries with another at a frame
-abbrev pub with_entry : ℕ → RmpEntry → (ℕ → RmpEntry) → ℕ → RmpEntry
-with_entry frame entry facts f = if frame == f then entry else facts f
-
 -- the bay of a frame is there
 abbrev pub HasFrame : Stock → ℕ → Type 0
 HasFrame stock frame = IsSome (stock.bays (frame / 512))
+
+-- an entry of a page of 2 MB may be written: the page is the whole region that begins at a frame, whose locks have one holder
+pub record IsWholeRegion (stock : Stock) (frame : ℕ) (entry : RmpEntry) : Type 0 where
+  pub assigned : entry.assigned ≡ true
+  pub aligned : entry.gpn % 512 ≡ 0
+  pub first : frame % 512 ≡ 0
+  pub one_holder : (f : ℕ) → f / 512 ≡ frame / 512 → (locks_of stock).holder f ≡ (locks_of stock).holder frame
 
 -- all that is touched is there
 abbrev pub HasTouched : Touched → Stock → Type 0

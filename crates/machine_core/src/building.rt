@@ -1,9 +1,10 @@
-ghost use Rattle.std.specs.Prelude.{◌≡◌, ℕ, ◌*◌, ◌^◌, ◌<◌, length, map, replicate, IfOk};
+ghost use Rattle.std.specs.Prelude.{◌≡◌, ℕ, ◌*◌, ◌^◌, ◌<◌, true, length, map, replicate, IfOk};
 ghost use Rattle.std.specs.List.{AllByRecursion};
 ghost use Rattle.snp_model.specs.declared.entry.PageSize.TheVariants.{Small};
+ghost use Rattle.snp_model.specs.Entries.{facts_within};
 ghost use Rattle.snp_model.specs.Facts.{free_entry};
 ghost use Rattle.snp_model.specs.Opening.{opening_part, page_facts, facts_from, words_from};
-ghost use Rattle.snp_model.specs.Sound.{IsPage, IsWord};
+ghost use Rattle.snp_model.specs.Sound.{FramesDiffer, IsPage, IsWord, Pairwise};
 ghost use Rattle.snp_model.specs.State.{zero_words};
 ghost use Rattle.machine_core.specs.Bays.{facts_of, free_bay, locks_of, no_locks, own_bays, own_stock, words_of};
 
@@ -15,12 +16,14 @@ use crate::parts::OwnParts;
 use snp_model::{Actor, GuestSpec, Kind, PageSpec, RmpEntry, WordSpec};
 use std::alloc::{AllocError, Global};
 
-// The entry of a guest's 4 KB page.
+// The entry of a guest's page, of which each frame has its facts, with page numbers that follow each other.
 fn page_entry(guests: &[GuestSpec], page: &PageSpec) -> RmpEntry
     requires guest { 0 < page.now.guest }
     requires perms { length page.now.perms ≡ 3 }
-    ensures facts { result ≡ page_facts guests.now page.now 0 }
+    ensures facts { (place : ℕ) → page_facts guests.now page.now place ≡ facts_within result place }
     ensures size { result.size ≡ page.now.size }
+    ensures assigned { result.assigned ≡ true }
+    ensures gpn { result.gpn ≡ page.now.gpn }
 {
     RmpEntry {
         assigned: true,
@@ -58,11 +61,13 @@ pub fn free_parts(alloc: Global, regions: u32) -> Result<OwnParts, AllocError>
     })
 }
 
-/// Sets the entries of the guests' pages, where there is no page of 2 MB.
+/// Sets the entries of the guests' pages, of which no two have a frame in common, where there is no page of 2 MB and no lock.
 #[tactic(auto, unfolding(snp_model::specs::Opening::facts_from))]
 pub fn set_pages(parts: &mut OwnParts, guests: &[GuestSpec], pages: &[PageSpec])
     requires pages { AllByRecursion (IsPage (512 * length parts.old.bays.items) (length guests.now)) pages.now }
+    requires apart { Pairwise FramesDiffer pages.now }
     requires small { (f : ℕ) → (facts_of (own_bays parts.old.bays.items) f).size ≡ Small }
+    requires unlocked { locks_of (own_stock parts.old.bays.items) ≡ no_locks }
     ensures facts { facts_of (own_bays parts.new.bays.items) ≡ facts_from guests.now (facts_of (own_bays parts.old.bays.items)) pages.now }
     ensures words { words_of (own_bays parts.new.bays.items) ≡ words_of (own_bays parts.old.bays.items) }
     ensures locks { locks_of (own_stock parts.new.bays.items) ≡ locks_of (own_stock parts.old.bays.items) }

@@ -1,13 +1,14 @@
 ghost use Rattle.std.specs.Prelude.{◌≡◌, ◌%◌, ◌<◌, List, None, Some};
-ghost use Rattle.snp_model.specs.declared.entry.PageSize.TheVariants.{Small};
+ghost use Rattle.snp_model.specs.declared.entry.PageSize.TheVariants.{Small, Large};
 ghost use Rattle.snp_model.specs.declared.event.Deed.{Deed};
 ghost use Rattle.snp_model.specs.declared.scenario.GuestSpec.{GuestSpec};
 ghost use Rattle.snp_model.specs.Accesses.{IsPlace, guest_verdict};
+ghost use Rattle.snp_model.specs.Entries.{with_entry};
 ghost use Rattle.snp_model.specs.Opening.{with_word_spec};
 ghost use Rattle.snp_model.specs.State.{ActorPart};
 ghost use Rattle.snp_model.specs.Step.{access_move};
 ghost use Rattle.snp_model.specs.Verdicts.{host_verdict};
-ghost use Rattle.machine_core.specs.Bays.{HasFrame, facts_of, locks_of, view_on, with_entry, words_of};
+ghost use Rattle.machine_core.specs.Bays.{HasFrame, IsWholeRegion, facts_of, locks_of, view_on, words_of};
 ghost use Rattle.machine_core.specs.Moves.{move_by};
 
 use crate::parts::Parts;
@@ -57,11 +58,12 @@ pub fn set_word<P: Parts>(parts: &mut P, frame: u32, index: u16, value: u64)
         .store((frame % 512) as usize, index as usize, value);
 }
 
-/// Sets the entry of a 4 KB frame, which is in no page of 2 MB.
+/// Sets the entry of a page, which begins at a frame: of 4 KB, where the frame is in no page of 2 MB, or of 2 MB, where the page
+/// is a whole region.
 pub fn set_entry<P: Parts>(parts: &mut P, frame: u32, entry: RmpEntry)
     requires has { HasFrame (P.stock parts.old) frame }
-    requires was_small { (facts_of (P.stock parts.old).bays frame).size ≡ Small }
-    requires small { entry.size ≡ Small }
+    requires small { entry.size ≡ Small → (facts_of (P.stock parts.old).bays frame).size ≡ Small }
+    requires large { entry.size ≡ Large → IsWholeRegion (P.stock parts.old) frame entry }
     ensures facts { facts_of (P.stock parts.new).bays ≡ with_entry frame entry (facts_of (P.stock parts.old).bays) }
     ensures words { words_of (P.stock parts.new).bays ≡ words_of (P.stock parts.old).bays }
     ensures locks { locks_of (P.stock parts.new) ≡ locks_of (P.stock parts.old) }

@@ -1,10 +1,10 @@
 -- the pages so far are set
-use Rattle.std.proofs.Common.{◌≡◌, ℕ, ◌*◌, drop, length}
+use Rattle.std.proofs.Common.{◌≡◌, ◌*◌, drop, length}
 use Rattle.std.specs.List.{AllByRecursion}
-use Rattle.snp_model.specs.declared.entry.PageSize.TheVariants.{Small}
 use Rattle.snp_model.specs.Opening.{facts_from}
-use Rattle.snp_model.specs.Sound.{IsPage}
+use Rattle.snp_model.specs.Sound.{FramesDiffer, IsPage, Pairwise}
 use Rattle.machine_core.specs.Bays.{facts_of, locks_of, own_bays, own_stock, words_of}
+use Rattle.machine_core.proofs.BuildingLaws.{IsSmallPage}
 use Rattle.machine_core.proofs.building.set_pages.Given as goal
 
 abbrev pub invariant-pages : goal.invariant-pages
@@ -13,6 +13,7 @@ invariant-pages l = record {
   words : words_of (own_bays l.parts.bays.items) ≡ words_of (own_bays l.initial.parts.bays.items);
   locks : locks_of (own_stock l.parts.bays.items) ≡ locks_of (own_stock l.initial.parts.bays.items);
   regions : length l.parts.bays.items ≡ length l.initial.parts.bays.items;
-  small : (f : ℕ) → (facts_of (own_bays l.parts.bays.items) f).size ≡ Small;
+  small : AllByRecursion (IsSmallPage (facts_of (own_bays l.parts.bays.items))) (drop l.page-index l.pages);
+  apart : Pairwise FramesDiffer (drop l.page-index l.pages);
   rest : AllByRecursion (IsPage (512 * length l.parts.bays.items) (length l.guests)) (drop l.page-index l.pages);
 }

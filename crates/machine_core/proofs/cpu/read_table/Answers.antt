@@ -14,9 +14,10 @@ returns-in-Ok g c =
     let deeds = c.args.actor.now.deeds in
     let place = c.args.place.now in
     let faults : ℕ → Option Outcome = λ value. fault_of (need_after frames (processor_of walker.cpu) walker.lookup (deeds ++ Table place.gpn place.index c.args.frame (Some value) ∷ [])) in
-    let fault : c.fault_by_table.result ≡ faults c.in-Ok.word =
-    c.fault_by_table.ensures frames walker.cpu.npt
+    let fault : c.fault_by_table-outcome.result ≡ faults c.in-Ok.word =
+    c.fault_by_table-outcome.ensures frames walker.cpu.npt
     ∙ (λ i. fault_of (walk_need frames walker.cpu.npt walker.lookup (guest_stands walker.cpu.paging walker.lookup (c.guest_words.ensures i ++ c.in-Ok.word ∷ [])) []))
     ∙ ap fault_of (sym (table_read_more frames (processor_of walker.cpu) walker.lookup deeds place.gpn place.index c.args.frame c.in-Ok.word)) in
-    (λ i. record { deed = Table place.gpn place.index c.args.frame (Some c.in-Ok.word); outcome = fault i; lock = None })
+    c.quiet.ensures
+    ∙ (λ i. record { deed = Table place.gpn place.index c.args.frame (Some c.in-Ok.word); outcome = fault i; lock = None })
     ∙ ap (λ (load : Result ℕ Outcome). table_shown load place.gpn place.index c.args.frame faults) (sym c.in-Ok.is ∙ c.guest_table_word.ensures)

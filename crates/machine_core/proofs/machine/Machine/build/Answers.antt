@@ -5,6 +5,7 @@ use Rattle.snp_model.specs.Opening.{facts_from, words_from, opening_part}
 use Rattle.snp_model.specs.State.{zero_words}
 use Rattle.machine_core.specs.Bays.{facts_of, own_bays, words_of}
 use Rattle.machine_core.proofs.OpeningLaws.{IsBuilt, opened, built_machine, short_scripts}
+use Rattle.snp_model.proofs.OpeningParts.{opening_shaped}
 use Rattle.snp_model.proofs.SoundLaws.{valid_is_sound}
 use Rattle.machine_core.proofs.machine.Machine.build.Goals as goal
 
@@ -12,6 +13,12 @@ pub set_pages-requires-clause-pages : goal.set_pages-requires-clause-pages
 set_pages-requires-clause-pages c =
     let sound = valid_is_sound c.args.scenario.now c.requires in
     rw (c.in_ok-parts.ensures.regions, c.as_slice-guests.ensures, c.as_slice.ensures) sound.pages
+
+pub set_pages-requires-clause-apart : goal.set_pages-requires-clause-apart
+set_pages-requires-clause-apart c = rw c.as_slice.ensures (valid_is_sound c.args.scenario.now c.requires).frames_differ
+
+pub set_pages-requires-clause-unlocked : goal.set_pages-requires-clause-unlocked
+set_pages-requires-clause-unlocked c = c.in_ok-parts.ensures.locks
 
 pub set_pages-requires-clause-small : goal.set_pages-requires-clause-small
 unfolding free_entry
@@ -46,7 +53,7 @@ invariant_of-result c =
       guests_are = kept ∙ guests;
       actors_are = parts ∙ ap (map opening_part) actors;
     } in
-    built_machine scenario c.set_words.new.parts.bays.items c.in_ok-guests.guests c.in_ok-actors.actors.items sound built
+    built_machine scenario c.set_words.new.parts.bays.items c.in_ok-guests.guests c.in_ok-actors.actors.items sound (opening_shaped scenario sound) built
 
 pub returns : goal.returns
 returns c =
