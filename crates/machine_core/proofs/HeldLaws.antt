@@ -1,5 +1,5 @@
 -- What an open attempt has locked, by the item of its actor, and what an event that takes no lock leaves of the locks.
-use Rattle.std.proofs.Common.{◌≡◌, ℕ, ◌/◌, nat_lt, Bool, true, false, ◌||◌, List, [], ◌∷◌, length, Option, None, Some, Result, Ok, Err, refl, sym, ap, ◌∙◌, subst, arith}
+use Rattle.std.proofs.Common.{◌≡◌, ℕ, suc, ◌/◌, nat_lt, Bool, true, false, ◌||◌, List, [], ◌∷◌, length, Option, None, Some, Result, Ok, Err, refl, sym, ap, ◌∙◌, subst, arith}
 use Rattle.std.proofs.lemmas.Bool.{true≢false}
 use Rattle.std.proofs.lemmas.Bool.Decides.{nat_tests}
 use Rattle.std.specs.List.{list_any}
@@ -69,9 +69,12 @@ pub has_one : (Holds : PageLock → Type 0) (locks : List PageLock) → nat_lt 0
 has_one Holds [] some one = absurd (true≢false (sym some))
 has_one Holds (lock ∷ others) some one = record { lock = lock; are = ap (λ (ls : List PageLock). lock ∷ ls) one.1; holds = one.0 }
 
+some_lock : (others : List PageLock) → nat_lt 0 (suc (length others)) ≡ true
+some_lock others = grind (arith, nat_tests)
+
 no_locks : (locks : List PageLock) → nat_lt 0 (length locks) ≡ false → locks ≡ []
 no_locks [] none = refl
-no_locks (lock ∷ others) none = absurd (true≢false none)
+no_locks (lock ∷ others) none = absurd (true≢false (sym (some_lock others) ∙ none))
 
 pub has_none : (Holds : PageLock → Type 0) (standing : Standing) → nat_lt 0 (length standing.locks) ≡ false → AreInstructionLocks Holds standing → standing ≡ nothing_taken
 has_none Holds standing none locks = λ i. record { locks = no_locks standing.locks none i; context_lock = locks.context i; computed = locks.computed i }
@@ -94,7 +97,7 @@ pub lock_has : (refused : Bool) (frame : ℕ) (locks : List PageLock) (stock : S
 unfolding instruction_touches
 lock_has true frame locks stock has none fine = absurd (true≢false fine)
 lock_has false frame [] stock has none fine = has frame (grind (arith, nat_tests))
-lock_has false frame (lock ∷ others) stock has none fine = absurd (true≢false none)
+lock_has false frame (lock ∷ others) stock has none fine = absurd (true≢false (sym (some_lock others) ∙ none))
 
 pub commit_has : (refused : Bool) (frame : ℕ) (locks : List PageLock) (stock : Stock) → HasTouched (instruction_touches refused frame locks) stock → nat_lt 0 (length locks) ≡ true → HasFrame stock frame
 unfolding instruction_touches

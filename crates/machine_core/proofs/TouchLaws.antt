@@ -132,7 +132,7 @@ instruction_among : (regions : ℕ) (refused : Bool) (frame : ℕ) (locks : List
 unfolding instruction_touches
 instruction_among regions true frame [] below one = none_among regions nothing_touched refl
 instruction_among regions false frame [] below one = frame_among regions frame (below refl)
-instruction_among regions refused frame (lock ∷ others) below one f touches =
+instruction_among regions refused frame (lock ∷ others) below one = λ f touches.
     let listed : lock_regions lock ++ locks_regions others ≡ region_of frame ∷ [] = (λ i. one.0.one i ++ locks_regions (one.1 i)) in
     let found : touches_frame (record { regions = region_of frame ∷ region_of frame ∷ []; context = None }) f ≡ true =
     subst (λ (regions : List ℕ). list_any (λ region. eqb region (region_of f)) (region_of frame ∷ regions) ≡ true) listed touches in
@@ -177,7 +177,7 @@ address_among regions address below = omega arith
 item_among : (regions : ℕ) (guests : List GuestSpec) (contents : Contents) (part : ActorPart) (role : Role) (item : Item) → IsRole (512 * regions) (length guests) role → IsItemOf (512 * regions) role item
     → AreItemLocks (512 * regions) guests contents role item part.deeds part.standing → AreAmong regions (item_touches (512 * regions) guests part role item)
 unfolding item_touches AreItemLocks
-item_among regions guests contents part (Cpu guest vmpl npt paging) (items.Access address op) is_role is_item =
+item_among regions guests contents part (Cpu guest vmpl npt paging) (items.Access address op) is_role is_item tested =
     walk_among regions (record { guest = guest; vmpl = vmpl; npt = npt; paging = paging }) (lookup_of address op) part.deeds is_role.npt_below
 item_among regions guests contents part (Cpu guest vmpl npt paging) (items.Pvalidate address size validate) is_role is_item tested = absurd is_item
 item_among regions guests contents part (Cpu guest vmpl npt paging) (items.Rmpadjust address size target mask vmsa) is_role is_item tested = absurd is_item

@@ -137,9 +137,10 @@ fn read_table<P: Parts>(
     requires has { HasFrame (P.stock parts.now) frame }
     requires place { IsPlace place.now }
     requires slot { place.now.slot ≡ frame % 512 }
-    ensures { (frames : ℕ) → let page = pages_of (P.stock parts.now).bays frame in
+    ensures shown { (frames : ℕ) → let page = pages_of (P.stock parts.now).bays frame in
         shown.new ≡ table_shown (table_load (private_verdict page.facts place.now Load) (word_of page place.now.index)) place.now.gpn place.now.index frame
         (λ value. fault_of (need_after frames (processor_of walker.now.cpu) walker.now.lookup (actor.now.deeds ++ Table place.now.gpn place.now.index frame (Some value) ∷ []))) }
+    ensures unlocked { shown.new.lock ≡ None }
 {
     let gpn = place.gpn;
     let index = place.index as u16;

@@ -144,7 +144,7 @@ fn cpu_event<P: Parts>(
 }
 
 // The next event of a hypervisor's processor.
-#[tactic(auto, using(crate::proofs::TouchLaws::frame_has), unfolding(snp_model::specs::Step::item_move, snp_model::specs::Touches::item_touches))]
+#[tactic(auto, using(crate::proofs::TouchLaws::frame_has, crate::proofs::HeldLaws::none_relocked), unfolding(snp_model::specs::Step::item_move, snp_model::specs::Touches::item_touches, snp_model::specs::HeldLocks::AreItemLocks))]
 fn host_event<P: Parts>(
     parts: &mut P,
     number: u32,

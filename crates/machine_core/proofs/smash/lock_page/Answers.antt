@@ -38,7 +38,7 @@ returns-in-Err-smash_lock-clause-shown g c =
 pub returns-in-Err-smash_lock-clause-locks : goal.returns-in-Err-smash_lock-clause-locks
 returns-in-Err-smash_lock-clause-locks g c =
     lock_refused _ _ c.args.number c.args.frame c.in-Ok.region c.bay_mut-bay.result.now (record { memory = c.bay_mut-bay.result.now.memory; rmp = c.smash_lock.new.rmp }) c.in-Err-smash_lock.refusal c.refused-in-Err-smash_lock.result
-    (record { there = c.bay_mut-bay.ensures.value; stock_is = g.met.P.Parts.bay_written _ _ _ (some_there _ _ _ c.bay_mut-bay.ensures.value) }) (c.in-Err-smash_lock.ensures.refused refl) c.requires.none c.refused-in-Err-smash_lock.ensures
+    (record { there = c.bay_mut-bay.ensures.value; stock_is = g.met.P.Parts.bay_written _ _ _ (some_there (g.P.Parts.stock c.args.parts.now).bays c.in-Ok.region c.bay_mut-bay.result.now c.bay_mut-bay.ensures.value) }) (c.in-Err-smash_lock.ensures.refused refl) c.requires.none c.refused-in-Err-smash_lock.ensures
 
 pub returns-in-Ok-smash_lock-clause-shown : goal.returns-in-Ok-smash_lock-clause-shown
 returns-in-Ok-smash_lock-clause-shown g c =
@@ -49,11 +49,11 @@ returns-in-Ok-smash_lock-clause-shown g c =
 pub returns-in-Ok-smash_lock-clause-pages : goal.returns-in-Ok-smash_lock-clause-pages
 returns-in-Ok-smash_lock-clause-pages g c =
     lock_pages _ _ c.in-Ok.region c.bay_mut-bay.result.now (record { memory = c.bay_mut-bay.result.now.memory; rmp = c.smash_lock.new.rmp })
-    (record { there = c.bay_mut-bay.ensures.value; stock_is = g.met.P.Parts.bay_written _ _ _ (some_there _ _ _ c.bay_mut-bay.ensures.value) }) refl c.smash_lock.ensures.facts
+    (record { there = c.bay_mut-bay.ensures.value; stock_is = g.met.P.Parts.bay_written _ _ _ (some_there (g.P.Parts.stock c.args.parts.now).bays c.in-Ok.region c.bay_mut-bay.result.now c.bay_mut-bay.ensures.value) }) refl c.smash_lock.ensures.facts
 
 pub returns-in-Ok-smash_lock-clause-locks : goal.returns-in-Ok-smash_lock-clause-locks
 returns-in-Ok-smash_lock-clause-locks g c =
     let found = region_found (is_bad_smash c.args.frames c.args.frame) c.args.frame c.in-Ok.region c.smash_region.result c.in-Ok.is c.smash_region.ensures.region in
     let passed = answer_passed _ _ c.smash_lock.result c.in-Ok-smash_lock.is c.smash_lock.ensures.answer in
     lock_taken _ _ c.args.frames c.args.number c.args.frame c.in-Ok.region c.bay_mut-bay.result.now (record { memory = c.bay_mut-bay.result.now.memory; rmp = c.smash_lock.new.rmp }) c.page_taken.result c.locked.result found
-    (record { there = c.bay_mut-bay.ensures.value; stock_is = g.met.P.Parts.bay_written _ _ _ (some_there _ _ _ c.bay_mut-bay.ensures.value) }) passed (c.in-Ok-smash_lock.ensures.locked refl) c.requires.none c.page_taken.ensures c.locked.ensures
+    (record { there = c.bay_mut-bay.ensures.value; stock_is = g.met.P.Parts.bay_written _ _ _ (some_there (g.P.Parts.stock c.args.parts.now).bays c.in-Ok.region c.bay_mut-bay.result.now c.bay_mut-bay.ensures.value) }) passed (c.in-Ok-smash_lock.ensures.locked refl) c.requires.none c.page_taken.ensures c.locked.ensures

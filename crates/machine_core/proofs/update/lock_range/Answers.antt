@@ -43,11 +43,11 @@ returns-in-Ok-update_lock-clause-shown g c =
 pub returns-in-Ok-update_lock-clause-pages : goal.returns-in-Ok-update_lock-clause-pages
 returns-in-Ok-update_lock-clause-pages g c =
     lock_pages _ _ c.in-Ok.region c.bay_mut-bay.result.now (record { memory = c.bay_mut-bay.result.now.memory; rmp = c.update_lock.new.rmp })
-    (record { there = c.bay_mut-bay.ensures.value; stock_is = g.met.P.Parts.bay_written _ _ _ (some_there _ _ _ c.bay_mut-bay.ensures.value) }) refl c.update_lock.ensures.facts
+    (record { there = c.bay_mut-bay.ensures.value; stock_is = g.met.P.Parts.bay_written _ _ _ (some_there (g.P.Parts.stock c.args.parts.now).bays c.in-Ok.region c.bay_mut-bay.result.now c.bay_mut-bay.ensures.value) }) refl c.update_lock.ensures.facts
 
 pub returns-in-Ok-update_lock-clause-locks : goal.returns-in-Ok-update_lock-clause-locks
 returns-in-Ok-update_lock-clause-locks g c =
     let found = region_found (is_bad_update c.args.frames c.args.update.now) c.args.update.now.frame c.in-Ok.region c.update_region.result c.in-Ok.is c.update_region.ensures.region in
     lock_taken _ _ c.args.frames c.args.number c.args.update.now c.in-Ok.region c.bay_mut-bay.result.now (record { memory = c.bay_mut-bay.result.now.memory; rmp = c.update_lock.new.rmp }) c.locked.result found
-    (record { there = c.bay_mut-bay.ensures.value; stock_is = g.met.P.Parts.bay_written _ _ _ (some_there _ _ _ c.bay_mut-bay.ensures.value) }) c.in-Ok-update_lock.ensures.locked c.requires.none
+    (record { there = c.bay_mut-bay.ensures.value; stock_is = g.met.P.Parts.bay_written _ _ _ (some_there (g.P.Parts.stock c.args.parts.now).bays c.in-Ok.region c.bay_mut-bay.result.now c.bay_mut-bay.ensures.value) }) (c.in-Ok-update_lock.ensures.locked refl) c.requires.none
     (shown_locked (update_lock c.args.update.now) c.range_taken.result None c.locked.result c.locked.ensures c.range_taken.ensures refl)
