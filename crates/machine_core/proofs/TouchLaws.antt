@@ -129,7 +129,7 @@ record IsOfFrame (regions frame : ℕ) (lock : PageLock) : Type 0 where
   one : lock_regions lock ≡ region_of frame ∷ []
 
 instruction_among : (regions : ℕ) (refused : Bool) (frame : ℕ) (locks : List PageLock) → (refused ≡ false → frame < 512 * regions) → IsOneLock (IsOfFrame regions frame) locks → AreAmong regions (instruction_touches refused frame locks)
-unfolding instruction_touches
+unfolding instruction_touches locks_regions
 instruction_among regions true frame [] below one = none_among regions nothing_touched refl
 instruction_among regions false frame [] below one = frame_among regions frame (below refl)
 instruction_among regions refused frame (lock ∷ others) below one = λ f touches.
