@@ -32,10 +32,10 @@ use Rattle.snp_model.proofs.RangeLaws.{over_beside}
 use Rattle.snp_model.specs.Verdicts.{private_verdict}
 use Rattle.machine_core.specs.Moves.{move_by, table_load}
 
-put_at : (bays : Bays) (region : ℕ) (bay : Bay) (r : ℕ) → r ≡ region → put region bay bays r ≡ Some bay
+pub put_at : (bays : Bays) (region : ℕ) (bay : Bay) (r : ℕ) → r ≡ region → put region bay bays r ≡ Some bay
 put_at bays region bay r same = grind (arith, nat_tests)
 
-put_off : (bays : Bays) (region : ℕ) (bay : Bay) (r : ℕ) → r ≢ region → put region bay bays r ≡ bays r
+pub put_off : (bays : Bays) (region : ℕ) (bay : Bay) (r : ℕ) → r ≢ region → put region bay bays r ≡ bays r
 put_off bays region bay r other = grind (arith, nat_tests)
 
 -- the bay that is there, put again
@@ -213,7 +213,7 @@ region_entry stock frame bay entry there whole = record {
 }
 
 -- a range of slots that is changed is one of frames
-same_range : (frame count f : ℕ) → f / 512 ≡ frame / 512 → in_range (frame % 512) count (f % 512) ≡ in_range frame count f
+pub same_range : (frame count f : ℕ) → f / 512 ≡ frame / 512 → in_range (frame % 512) count (f % 512) ≡ in_range frame count f
 same_range frame count f here = grind (arith, nat_tests)
 
 over_slots : {X : Type 0} (kept kept' : ℕ → X) (frame count f : ℕ) (change : ℕ → X → X) → f / 512 ≡ frame / 512 → kept (f % 512) ≡ kept' f
@@ -228,7 +228,7 @@ page_within : (size : PageSize) (frame : ℕ) → (size ≡ Large → frame % 51
 page_within Small frame first = omega arith
 page_within Large frame first = omega (arith, first refl)
 
-range_beside : (frame count f : ℕ) → frame % 512 + count ≤ 512 → f / 512 ≢ frame / 512 → in_range frame count f ≡ false
+pub range_beside : (frame count f : ℕ) → frame % 512 + count ≤ 512 → f / 512 ≢ frame / 512 → in_range frame count f ≡ false
 range_beside frame count f within apart =
     not_true (in_range frame count f) (λ inside.
     let low : frame ≤ f = grind (arith, nat_tests) in

@@ -11,7 +11,8 @@ use Rattle.snp_model.specs.Locks.{covers, in_range, over}
 use Rattle.snp_model.specs.State.{Page, PageLock}
 use Rattle.snp_model.specs.Verdicts.{is_large}
 use Rattle.machine_core.specs.declared.bay.Bay.{Bay}
-use Rattle.machine_core.specs.Bays.{Bays, Stock, holder_in, holders_of, page_in, pages_of, put, stock_with}
+use Rattle.machine_core.specs.Bays.{Bays, Stock, holder_in, holders_of, page_in, pages_of, stock_with}
+use Rattle.machine_core.proofs.BaysLaws.{put_at, put_off, range_beside, same_range}
 
 -- what is read of a bay by slot, read by frame
 abbrev pub by_frame : {A : Type 0} → (Option Bay → ℕ → A) → Bays → ℕ → A
@@ -25,12 +26,6 @@ pub record IsPut (stock new_stock : Stock) (region : ℕ) (old new : Bay) : Type
 read_old : {A : Type 0} (read : Option Bay → ℕ → A) (stock new_stock : Stock) (region : ℕ) (old new : Bay) → IsPut stock new_stock region old new
     → (f : ℕ) → f / 512 ≡ region → by_frame read stock.bays f ≡ read (Some old) (f % 512)
 read_old read stock new_stock region old new is f here = ap (λ (o : Option Bay). read o (f % 512)) (ap stock.bays here ∙ is.there)
-
-put_at : (bays : Bays) (region : ℕ) (bay : Bay) (r : ℕ) → r ≡ region → put region bay bays r ≡ Some bay
-put_at bays region bay r same = grind (arith, nat_tests)
-
-put_off : (bays : Bays) (region : ℕ) (bay : Bay) (r : ℕ) → r ≢ region → put region bay bays r ≡ bays r
-put_off bays region bay r other = grind (arith, nat_tests)
 
 read_new : {A : Type 0} (read : Option Bay → ℕ → A) (stock new_stock : Stock) (region : ℕ) (old new : Bay) → IsPut stock new_stock region old new
     → (f : ℕ) → f / 512 ≡ region → by_frame read new_stock.bays f ≡ read (Some new) (f % 512)
@@ -54,13 +49,7 @@ read_in read bays bay base place there within =
 pub some_there : (bays : Bays) (region : ℕ) (bay : Bay) → bays region ≡ Some bay → IsSome (bays region)
 some_there bays region bay there = ap is_some there
 
--- a range that lies in one region, by frame and by slot
-range_here : (base count f : ℕ) → base % 512 + count ≤ 512 → f / 512 ≡ base / 512 → in_range (base % 512) count (f % 512) ≡ in_range base count f
-range_here base count f fits here = grind (arith, nat_tests)
-
-range_apart : (base count f : ℕ) → base % 512 + count ≤ 512 → f / 512 ≢ base / 512 → in_range base count f ≡ false
-range_apart base count f fits apart = grind (arith, nat_tests)
-
+-- a place of a range that lies in one region, by frame and by slot
 place_here : (base count f : ℕ) → f / 512 ≡ base / 512 → in_range base count f ≡ true → f % 512 - base % 512 ≡ f - base
 place_here base count f here inside = grind (arith, nat_tests)
 
@@ -69,14 +58,14 @@ place_moved : {A : Type 0} (base count : ℕ) (change : ℕ → A → A) (kept :
 place_moved base count change kept f true here is = ap (λ (place : ℕ). change place kept) (place_here base count f here is)
 place_moved base count change kept f false here is = refl
 
-over_here : {A : Type 0} (base count : ℕ) (change : ℕ → A → A) (kept : A) (f : ℕ) → base % 512 + count ≤ 512 → f / 512 ≡ base / 512
+over_here : {A : Type 0} (base count : ℕ) (change : ℕ → A → A) (kept : A) (f : ℕ) → f / 512 ≡ base / 512
     → cond (in_range (base % 512) count (f % 512)) (change (f % 512 - base % 512) kept) kept ≡ cond (in_range base count f) (change (f - base) kept) kept
-over_here base count change kept f fits here =
-    ap (λ (b : Bool). cond b (change (f % 512 - base % 512) kept) kept) (range_here base count f fits here)
+over_here base count change kept f here =
+    ap (λ (b : Bool). cond b (change (f % 512 - base % 512) kept) kept) (same_range base count f here)
     ∙ place_moved base count change kept f (in_range base count f) here refl
 
 over_apart : {A : Type 0} (base count : ℕ) (change : ℕ → A → A) (kept : ℕ → A) (f : ℕ) → base % 512 + count ≤ 512 → f / 512 ≢ base / 512 → over base count change kept f ≡ kept f
-over_apart base count change kept f fits apart = ap (λ (b : Bool). cond b (change (f - base) (kept f)) (kept f)) (range_apart base count f fits apart)
+over_apart base count change kept f fits apart = ap (λ (b : Bool). cond b (change (f - base) (kept f)) (kept f)) (range_beside base count f fits apart)
 
 -- what is read of a bay was changed over a range
 range_each : {A : Type 0} (read : Option Bay → ℕ → A) (stock new_stock : Stock) (base count : ℕ) (old new : Bay) (change : ℕ → A → A) → base % 512 + count ≤ 512 → IsPut stock new_stock (base / 512) old new
@@ -86,7 +75,7 @@ range_each read stock new_stock base count old new change fits is changed f =
     (λ (here : f / 512 ≡ base / 512).
     read_new read stock new_stock (base / 512) old new is f here
     ∙ (λ i. changed i (f % 512))
-    ∙ over_here base count change (read (Some old) (f % 512)) f fits here
+    ∙ over_here base count change (read (Some old) (f % 512)) f here
     ∙ (λ i. cond (in_range base count f) (change (f - base) (sym (read_old read stock new_stock (base / 512) old new is f here) i)) (sym (read_old read stock new_stock (base / 512) old new is f here) i)))
     (λ (apart : f / 512 ≢ base / 512).
     read_beside read stock new_stock (base / 512) old new is f apart ∙ sym (over_apart base count change (by_frame read stock.bays) f fits apart))
@@ -168,5 +157,5 @@ pub covered_region : (base count f : ℕ) → base % 512 + count ≤ 512 → in_
 covered_region base count f fits inside =
     ⊎_elim
     (λ (here : f / 512 ≡ base / 512). here)
-    (λ (apart : f / 512 ≢ base / 512). absurd (true≢false (sym inside ∙ range_apart base count f fits apart)))
+    (λ (apart : f / 512 ≢ base / 512). absurd (true≢false (sym inside ∙ range_beside base count f fits apart)))
     (cases_eq (f / 512) (base / 512))

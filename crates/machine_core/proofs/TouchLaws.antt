@@ -159,11 +159,13 @@ update_locked regions contents update (lock ∷ others) one =
 smash_locked : (regions : ℕ) (contents : Contents) (frame : ℕ) (locks : List PageLock) → IsOneLock (IsSmashLock (512 * regions) contents frame) locks → IsOneLock (IsOfFrame regions frame) locks
 smash_locked regions contents frame [] one = tt
 smash_locked regions contents frame (lock ∷ others) one =
-    let passes = smash_passes (512 * regions) frame (facts_of contents frame) None one.0.passes in
-    (record {
-      below = smash_below (512 * regions) frame passes.fine;
-      one = ap lock_regions (one.0.covers ∙ ap (λ (size : PageSize). page_lock size frame) (is_large_size (facts_of contents frame).size passes.large)) ∙ page_region frame (smash_first (512 * regions) frame passes.fine);
-    }, one.1)
+    let passes = smash_passes (512 * regions) frame (facts_of contents frame) None one.0.passes in (
+      record {
+        below = smash_below (512 * regions) frame passes.fine;
+        one = ap lock_regions (one.0.covers ∙ ap (λ (size : PageSize). page_lock size frame) (is_large_size (facts_of contents frame).size passes.large)) ∙ page_region frame (smash_first (512 * regions) frame passes.fine);
+      },
+      one.1,
+    )
 
 walk_among : (regions : ℕ) (cpu : Processor) (lookup : Lookup) (made : List Deed) → cpu.npt < 512 * regions → AreAmong regions (walk_touches (512 * regions) cpu lookup made)
 unfolding walk_touches

@@ -46,13 +46,7 @@ pub fn update_event<P: Parts>(
 }
 
 // The lock of the range, with its tests.
-fn lock_range<P: Parts>(
-    parts: &mut P,
-    number: u32,
-    frames: u32,
-    update: &Update,
-    shown: &mut Shown,
-)
+fn lock_range<P: Parts>(parts: &mut P, number: u32, frames: u32, update: &Update, shown: &mut Shown)
     requires has { is_bad_update frames update.now ≡ false → HasFrame (P.stock parts.old) update.now.frame }
     requires none { HoldsNone number (P.stock parts.old) }
     ensures shown { shown.new ≡ lock_shown (update_lock update.now) (update_refused frames update.now (P.stock parts.old)) }
