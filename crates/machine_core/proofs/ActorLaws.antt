@@ -1,6 +1,6 @@
 -- The words that an actor keeps are those of its deeds.
-use Rattle.std.proofs.Common.{◌≡◌, ℕ, ◌+◌, ◌<◌, ◌≤◌, ◌^◌, true, List, [], ◌∷◌, ◌++◌, length, Some, None, refl, sym, ap, ◌∙◌, arith}
-use Rattle.std.proofs.lemmas.List.{append-nil, length_push}
+use Rattle.std.proofs.Common.{◌≡◌, ℕ, ◌+◌, ◌<◌, ◌≤◌, ◌^◌, true, List, [], ◌∷◌, ◌++◌, length, map, Some, None, refl, sym, ap, ◌∙◌, arith}
+use Rattle.std.proofs.lemmas.List.{append-nil, length_push, length-map, map-append}
 use Rattle.snp_model.specs.declared.event.Deed.{Deed}
 use Rattle.snp_model.specs.declared.event.Deed.TheVariants as deeds
 use Rattle.snp_model.specs.declared.item.Line.{Line}
@@ -11,7 +11,8 @@ use Rattle.snp_model.specs.declared.event.Outcome.TheVariants as outcomes
 use Rattle.snp_model.specs.Step.{line_at, passed_over}
 use Rattle.snp_model.specs.Walking.{guest_words, nested_words_after, nested_words}
 use Rattle.snp_model.proofs.ShapeLaws.{guest_words_append, nested_words_append}
-use Rattle.machine_core.specs.Actors.{guest_words_with, nested_words_with, is_nested_read, IsActorState, IsBegun}
+use Rattle.machine_core.specs.declared.taken_lock.TakenLock.{TakenLock}
+use Rattle.machine_core.specs.Actors.{page_lock_of, guest_words_with, nested_words_with, is_nested_read, IsActorState, IsBegun}
 use Rattle.snp_model.specs.Bounds.{IsGuestInside}
 use Rattle.machine_core.specs.Walks.{stands_of}
 
@@ -101,6 +102,14 @@ pub stands_stay : (role : Role) (script : List Line) (item : ℕ) (made : List D
     → IsBegun made → is_nested_read deed ≡ true → new_guest ≡ guest_words_with deed guest → stands ≡ stands_of role (line_at script item).item new_guest
 stands_stay role script item made deed guest nested new_guest stands is begun nested_is guest_is =
     is.stands_are begun ∙ ap (stands_of role (line_at script item).item) (sym (guest_is ∙ words_stay deed guest nested_is))
+
+-- the locks that an actor keeps are as many as contracts see
+pub as_many_locks : (taken : List TakenLock) → length (map page_lock_of taken) ≡ length taken
+as_many_locks taken = length-map taken page_lock_of
+
+-- one more of them
+pub locks_push : (taken : List TakenLock) (lock : TakenLock) → map page_lock_of (taken ++ lock ∷ []) ≡ map page_lock_of taken ++ page_lock_of lock ∷ []
+locks_push taken lock = map-append page_lock_of taken (lock ∷ [])
 
 -- an outcome but that of a skip passes over no item
 pub passes_none : (outcome : Outcome) → ((count : ℕ) → outcome ≡ outcomes.Skipped count → ⊥) → passed_over outcome ≡ 0

@@ -29,13 +29,15 @@ use Rattle.snp_model.proofs.LockLaws.{not_true}
 use Rattle.snp_model.proofs.RangeLaws.{over_beside}
 use Rattle.machine_core.specs.declared.bay.Bay.{Bay}
 use Rattle.machine_core.specs.Bays.{Bays, IsWholeRegion, Stock, contents_of, facts_of, holder_in, holders_of, locks_of, page_in, pages_of, put, stock_with, view_on, words_of}
+use Rattle.snp_model.proofs.LockLaws.{not_true}
+use Rattle.snp_model.proofs.RangeLaws.{over_beside}
 use Rattle.snp_model.specs.Verdicts.{private_verdict}
 use Rattle.machine_core.specs.Moves.{move_by, table_load}
 
-put_at : (bays : Bays) (region : ℕ) (bay : Bay) (r : ℕ) → r ≡ region → put region bay bays r ≡ Some bay
+pub put_at : (bays : Bays) (region : ℕ) (bay : Bay) (r : ℕ) → r ≡ region → put region bay bays r ≡ Some bay
 put_at bays region bay r same = grind (arith, nat_tests)
 
-put_off : (bays : Bays) (region : ℕ) (bay : Bay) (r : ℕ) → r ≢ region → put region bay bays r ≡ bays r
+pub put_off : (bays : Bays) (region : ℕ) (bay : Bay) (r : ℕ) → r ≢ region → put region bay bays r ≡ bays r
 put_off bays region bay r other = grind (arith, nat_tests)
 
 -- the bay that is there, put again
@@ -213,7 +215,7 @@ region_entry stock frame bay entry there whole = record {
 }
 
 -- a range of slots that is changed is one of frames
-same_range : (frame count f : ℕ) → f / 512 ≡ frame / 512 → in_range (frame % 512) count (f % 512) ≡ in_range frame count f
+pub same_range : (frame count f : ℕ) → f / 512 ≡ frame / 512 → in_range (frame % 512) count (f % 512) ≡ in_range frame count f
 same_range frame count f here = grind (arith, nat_tests)
 
 over_slots : {X : Type 0} (kept kept' : ℕ → X) (frame count f : ℕ) (change : ℕ → X → X) → f / 512 ≡ frame / 512 → kept (f % 512) ≡ kept' f
@@ -228,7 +230,7 @@ page_within : (size : PageSize) (frame : ℕ) → (size ≡ Large → frame % 51
 page_within Small frame first = omega arith
 page_within Large frame first = omega (arith, first refl)
 
-range_beside : (frame count f : ℕ) → frame % 512 + count ≤ 512 → f / 512 ≢ frame / 512 → in_range frame count f ≡ false
+pub range_beside : (frame count f : ℕ) → frame % 512 + count ≤ 512 → f / 512 ≢ frame / 512 → in_range frame count f ≡ false
 range_beside frame count f within apart =
     not_true (in_range frame count f) (λ inside.
     let low : frame ≤ f = grind (arith, nat_tests) in
@@ -300,7 +302,7 @@ after_view false bays frame index value bay there = ap pages_of (sym (put_same b
 -- the move of an access with a verdict, over the bay of its frame
 access_view : (stock : Stock) (guests : List GuestSpec) (part : ActorPart) (deed : Deed) (frame index : ℕ) (bay : Bay) (op : Op) (verdict : Verdict) → stock.bays (frame / 512) ≡ Some bay
     → access_move (contents_of stock guests) part deed verdict op frame index
-    ≡ move_by (record { deed = deed; outcome = Some (answer_by verdict op (word_at bay.memory (frame % 512) index)) }) (view_on (stock_with (frame / 512) (with_memory bay (memory_by verdict op bay.memory (frame % 512) index)) stock) guests) part.standing
+    ≡ move_by (record { deed = deed; outcome = Some (answer_by verdict op (word_at bay.memory (frame % 512) index)); lock = None }) (view_on (stock_with (frame / 512) (with_memory bay (memory_by verdict op bay.memory (frame % 512) index)) stock) guests) part.standing
 unfolding access_move
 access_view stock guests part deed frame index bay op Pass there =
     let word_is : word_of (pages_of stock.bays frame) index ≡ word_at bay.memory (frame % 512) index = ap (λ (p : Page). word_of p index) (page_there stock.bays frame bay there) in
@@ -322,17 +324,17 @@ pub record IsAccessed (stock new_stock : Stock) (frame slot index : ℕ) (bay : 
 
 pub accessed : (stock new_stock : Stock) (frame slot index : ℕ) (bay : Bay) (memory : List (List ℕ)) (op : Op) (verdict : RmpEntry → Verdict) (outcome : Outcome) → IsAccessed stock new_stock frame slot index bay memory op verdict outcome
     → (guests : List GuestSpec) (part : ActorPart) (deed : Deed)
-    → access_move (contents_of stock guests) part deed (verdict (pages_of stock.bays frame).facts) op frame index ≡ move_by (record { deed = deed; outcome = Some outcome }) (view_on new_stock guests) part.standing
+    → access_move (contents_of stock guests) part deed (verdict (pages_of stock.bays frame).facts) op frame index ≡ move_by (record { deed = deed; outcome = Some outcome; lock = None }) (view_on new_stock guests) part.standing
 accessed stock new_stock frame slot index bay memory op verdict outcome made guests part deed =
     let outcome_at = λ (s : ℕ). answer_by (verdict (facts_at bay.rmp s)) op (word_at bay.memory s index) in
     let memory_at = λ (s : ℕ). memory_by (verdict (facts_at bay.rmp s)) op bay.memory s index in
-    let leaves = λ (o : Outcome) (m : List (List ℕ)). move_by (record { deed = deed; outcome = Some o }) (view_on (stock_with (frame / 512) (with_memory bay m) stock) guests) part.standing in
+    let leaves = λ (o : Outcome) (m : List (List ℕ)). move_by (record { deed = deed; outcome = Some o; lock = None }) (view_on (stock_with (frame / 512) (with_memory bay m) stock) guests) part.standing in
     ap (λ (p : Page). access_move (contents_of stock guests) part deed (verdict p.facts) op frame index) (page_there stock.bays frame bay made.there)
     ∙ access_view stock guests part deed frame index bay op (verdict (facts_at bay.rmp (frame % 512))) made.there
     ∙ ap (λ (s : ℕ). leaves (outcome_at s) (memory_at s)) (sym made.slot_is)
     ∙ ap (λ (o : Outcome). leaves o (memory_at slot)) (sym made.outcome_is)
     ∙ ap (leaves outcome) (sym made.memory_is)
-    ∙ ap (λ (s : Stock). move_by (record { deed = deed; outcome = Some outcome }) (view_on s guests) part.standing) (sym made.stock_is)
+    ∙ ap (λ (s : Stock). move_by (record { deed = deed; outcome = Some outcome; lock = None }) (view_on s guests) part.standing) (sym made.stock_is)
 
 pub accessed_locks : (stock new_stock : Stock) (frame slot index : ℕ) (bay : Bay) (memory : List (List ℕ)) (op : Op) (verdict : RmpEntry → Verdict) (outcome : Outcome) → IsAccessed stock new_stock frame slot index bay memory op verdict outcome → locks_of new_stock ≡ locks_of stock
 accessed_locks stock new_stock frame slot index bay memory op verdict outcome made = locks_stay stock new_stock (frame / 512) bay (with_memory bay memory) made.there refl made.stock_is

@@ -2,9 +2,13 @@ pub mod ActorLaws
 pub mod BaysLaws
 pub mod BuildingLaws
 pub mod CpuLaws
+pub mod HeldLaws
 pub mod MachineLaws
 pub mod OpeningLaws
+pub mod RangeLaws
 pub mod SeeingLaws
 pub mod SkipLaws
+pub mod SmashLaws
 pub mod TouchLaws
+pub mod UpdateLaws
 pub mod WalkingLaws

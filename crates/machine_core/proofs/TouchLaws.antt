@@ -1,10 +1,13 @@
 -- Which regions an event needs.
-use Rattle.std.proofs.Common.{◌≡◌, ℕ, ◌-◌, ◌*◌, ◌/◌, ◌<◌, Bool, true, List, [], ◌∷◌, length, refl, subst, arith}
+use Rattle.std.proofs.Common.{◌≡◌, ℕ, ◌+◌, ◌-◌, ◌*◌, ◌/◌, ◌%◌, ◌<◌, ◌≤◌, Bool, true, false, eqb, List, [], ◌∷◌, ◌++◌, length, None, refl, ap, ◌∙◌, subst, arith}
+use Rattle.std.specs.List.{list_any, range_with_len}
 use Rattle.std.proofs.lemmas.Bool.Decides.{nat_tests}
 use Rattle.snp_model.specs.declared.entry.PageSize.{PageSize}
+use Rattle.snp_model.specs.declared.entry.PageSize.TheVariants.{Small, Large}
 use Rattle.snp_model.specs.declared.event.Deed.{Deed}
 use Rattle.snp_model.specs.declared.item.Item.{Item}
 use Rattle.snp_model.specs.declared.item.Item.TheVariants as items
+use Rattle.snp_model.specs.declared.item.Update.{Update}
 use Rattle.snp_model.specs.declared.scenario.GuestSpec.{GuestSpec}
 use Rattle.snp_model.specs.declared.scenario.Role.{Role}
 use Rattle.snp_model.specs.declared.scenario.Role.TheVariants.{Cpu, Host, Firmware}
@@ -17,16 +20,25 @@ use Rattle.snp_model.specs.declared.walk.NestedPath.{NestedPath}
 use Rattle.snp_model.specs.declared.walk.NestedEnd.{NestedEnd}
 use Rattle.snp_model.specs.declared.walk.NestedEnd.TheVariants as ends
 use Rattle.snp_model.specs.Bounds.{IsItemOf, IsRole}
+use Rattle.snp_model.specs.Facts.{frames_in}
+use Rattle.snp_model.specs.HeldLocks.{AreItemLocks, IsOneLock, IsSmashLock, IsUpdateLock}
+use Rattle.snp_model.specs.InstructionStep.{facts_of}
+use Rattle.snp_model.specs.KeptLocks.{IsTestedAt}
+use Rattle.snp_model.specs.Locks.{page_lock, range_lock}
 use Rattle.snp_model.specs.NestedWalk.{after_word, first_read, walk_from}
 use Rattle.snp_model.specs.Ready.{IsReady}
-use Rattle.snp_model.specs.State.{ActorPart}
+use Rattle.snp_model.specs.RmpUpdate.{is_bad_smash, is_bad_update}
+use Rattle.snp_model.specs.State.{ActorPart, Contents, PageLock}
 use Rattle.snp_model.specs.Step.{line_at}
-use Rattle.snp_model.specs.Touches.{Touched, context_touched, frame_touched, item_touches, need_touches, nothing_touched, region_of, touches_frame, walk_touches}
+use Rattle.snp_model.specs.Touches.{Touched, context_touched, frame_touched, instruction_touches, item_touches, lock_regions, locks_regions, need_touches, nothing_touched, region_of, touches_frame, walk_touches}
 use Rattle.snp_model.specs.Walking.{Processor, lookup_of, table_path, data_path, table_need, data_need, walk_need, need_after}
 use Rattle.snp_model.proofs.ReadyLaws.{ready_line}
+use Rattle.snp_model.proofs.TestedLaws.{smash_passes, update_passes}
 use Rattle.machine_core.specs.declared.bay.Bay.{Bay}
 use Rattle.machine_core.specs.Bays.{HasAll, HasFrame, HasTouched, Stock, own_stock}
 use Rattle.machine_core.specs.OwnLaws.{within_some}
+use Rattle.machine_core.proofs.SmashLaws.{is_large_size, page_base, smash_below, smash_first}
+use Rattle.machine_core.proofs.UpdateLaws.{update_below, update_fits}
 
 -- a frame that is touched has its region
 pub frame_has : (frame : ℕ) (stock : Stock) → HasTouched (frame_touched frame) stock → HasFrame stock frame
@@ -111,6 +123,50 @@ need_among regions npt lookup (guest_ends.Leaf gpn private size) words below =
     data_among regions gpn private _ (walk_below (data_path (512 * regions) npt gpn private lookup) 4 (first_read (data_path (512 * regions) npt gpn private lookup)) words below)
 need_among regions npt lookup (guest_ends.Fault code) words below = none_among regions nothing_touched refl
 
+-- so does an instruction, whose lock, where it has one, covers frames of the region of the frame that it names
+record IsOfFrame (regions frame : ℕ) (lock : PageLock) : Type 0 where
+  below : frame < 512 * regions
+  one : lock_regions lock ≡ region_of frame ∷ []
+
+instruction_among : (regions : ℕ) (refused : Bool) (frame : ℕ) (locks : List PageLock) → (refused ≡ false → frame < 512 * regions) → IsOneLock (IsOfFrame regions frame) locks → AreAmong regions (instruction_touches refused frame locks)
+unfolding instruction_touches locks_regions
+instruction_among regions true frame [] below one = none_among regions nothing_touched refl
+instruction_among regions false frame [] below one = frame_among regions frame (below refl)
+instruction_among regions refused frame (lock ∷ others) below one = λ f touches.
+    let listed : lock_regions lock ++ locks_regions others ≡ region_of frame ∷ [] = (λ i. one.0.one i ++ locks_regions (one.1 i)) in
+    let found : touches_frame (record { regions = region_of frame ∷ region_of frame ∷ []; context = None }) f ≡ true =
+    subst (λ (regions : List ℕ). list_any (λ region. eqb region (region_of f)) (region_of frame ∷ regions) ≡ true) listed touches in
+    let region : frame / 512 ≡ f / 512 = grind (arith, nat_tests) in
+    let low = one.0.below in
+    omega arith
+
+one_region : (first count : ℕ) → count ≡ 1 → range_with_len first count ≡ first ∷ []
+one_region first count one = ap (range_with_len first) one
+
+range_region : (size : PageSize) (frame : ℕ) → frame % 512 + frames_in size ≤ 512 → lock_regions (range_lock size frame) ≡ region_of frame ∷ []
+range_region Small frame fits = one_region (region_of frame) _ (omega arith)
+range_region Large frame fits = one_region (region_of frame) _ (omega arith)
+
+page_region : (frame : ℕ) → frame % 512 ≡ 0 → lock_regions (page_lock Large frame) ≡ region_of frame ∷ []
+page_region frame first = ap (λ (base : ℕ). lock_regions (record { frame = frame; base = base; count = 512 })) (page_base frame first) ∙ range_region Large frame (omega (arith, first))
+
+update_locked : (regions : ℕ) (contents : Contents) (update : Update) (locks : List PageLock) → IsOneLock (IsUpdateLock (512 * regions) contents update) locks → IsOneLock (IsOfFrame regions update.frame) locks
+update_locked regions contents update [] one = tt
+update_locked regions contents update (lock ∷ others) one =
+    let fine = (update_passes (512 * regions) update (λ place. facts_of contents (update.frame + place)) (λ place. None) one.0.passes).fine in
+    (record { below = update_below (512 * regions) update fine; one = ap lock_regions one.0.covers ∙ range_region update.size update.frame (update_fits (512 * regions) update fine) }, one.1)
+
+smash_locked : (regions : ℕ) (contents : Contents) (frame : ℕ) (locks : List PageLock) → IsOneLock (IsSmashLock (512 * regions) contents frame) locks → IsOneLock (IsOfFrame regions frame) locks
+smash_locked regions contents frame [] one = tt
+smash_locked regions contents frame (lock ∷ others) one =
+    let passes = smash_passes (512 * regions) frame (facts_of contents frame) None one.0.passes in (
+      record {
+        below = smash_below (512 * regions) frame passes.fine;
+        one = ap lock_regions (one.0.covers ∙ ap (λ (size : PageSize). page_lock size frame) (is_large_size (facts_of contents frame).size passes.large)) ∙ page_region frame (smash_first (512 * regions) frame passes.fine);
+      },
+      one.1,
+    )
+
 walk_among : (regions : ℕ) (cpu : Processor) (lookup : Lookup) (made : List Deed) → cpu.npt < 512 * regions → AreAmong regions (walk_touches (512 * regions) cpu lookup made)
 unfolding walk_touches
 walk_among regions cpu lookup [] below = none_among regions (context_touched cpu.guest) refl
@@ -119,34 +175,38 @@ walk_among regions cpu lookup (deed ∷ deeds) below = need_among regions cpu.np
 address_among : (regions address : ℕ) → address < 4096 * (512 * regions) → address / 4096 < 512 * regions
 address_among regions address below = omega arith
 
-item_among : (regions : ℕ) (guests : List GuestSpec) (part : ActorPart) (role : Role) (item : Item) → IsRole (512 * regions) (length guests) role → IsItemOf (512 * regions) role item
-    → AreAmong regions (item_touches (512 * regions) guests part role item)
-unfolding item_touches
-item_among regions guests part (Cpu guest vmpl npt paging) (items.Access address op) is_role is_item =
+-- what an item touches is among them: of instructions, by what the open attempt has locked
+item_among : (regions : ℕ) (guests : List GuestSpec) (contents : Contents) (part : ActorPart) (role : Role) (item : Item) → IsRole (512 * regions) (length guests) role → IsItemOf (512 * regions) role item
+    → AreItemLocks (512 * regions) guests contents role item part.deeds part.standing → AreAmong regions (item_touches (512 * regions) guests part role item)
+unfolding item_touches AreItemLocks
+item_among regions guests contents part (Cpu guest vmpl npt paging) (items.Access address op) is_role is_item tested =
     walk_among regions (record { guest = guest; vmpl = vmpl; npt = npt; paging = paging }) (lookup_of address op) part.deeds is_role.npt_below
-item_among regions guests part (Cpu guest vmpl npt paging) (items.Pvalidate address size validate) is_role is_item = absurd is_item
-item_among regions guests part (Cpu guest vmpl npt paging) (items.Rmpadjust address size target mask vmsa) is_role is_item = absurd is_item
-item_among regions guests part (Cpu guest vmpl npt paging) (items.Rmpupdate update) is_role is_item = none_among regions nothing_touched refl
-item_among regions guests part (Cpu guest vmpl npt paging) (items.Psmash frame) is_role is_item = none_among regions nothing_touched refl
-item_among regions guests part (Cpu guest vmpl npt paging) (items.Firmware command) is_role is_item = none_among regions nothing_touched refl
-item_among regions guests part (Cpu guest vmpl npt paging) (items.Skip count test) is_role is_item = none_among regions nothing_touched refl
-item_among regions guests part Host (items.Access address op) is_role is_item = frame_among regions (address / 4096) (address_among regions address is_item.0)
-item_among regions guests part Host (items.Pvalidate address size validate) is_role is_item = none_among regions nothing_touched refl
-item_among regions guests part Host (items.Rmpadjust address size target mask vmsa) is_role is_item = none_among regions nothing_touched refl
-item_among regions guests part Host (items.Rmpupdate update) is_role is_item = absurd is_item
-item_among regions guests part Host (items.Psmash frame) is_role is_item = absurd is_item
-item_among regions guests part Host (items.Firmware command) is_role is_item = none_among regions nothing_touched refl
-item_among regions guests part Host (items.Skip count test) is_role is_item = none_among regions nothing_touched refl
-item_among regions guests part Firmware (items.Access address op) is_role is_item = none_among regions nothing_touched refl
-item_among regions guests part Firmware (items.Pvalidate address size validate) is_role is_item = none_among regions nothing_touched refl
-item_among regions guests part Firmware (items.Rmpadjust address size target mask vmsa) is_role is_item = none_among regions nothing_touched refl
-item_among regions guests part Firmware (items.Rmpupdate update) is_role is_item = none_among regions nothing_touched refl
-item_among regions guests part Firmware (items.Psmash frame) is_role is_item = none_among regions nothing_touched refl
-item_among regions guests part Firmware (items.Firmware command) is_role is_item = absurd is_item
-item_among regions guests part Firmware (items.Skip count test) is_role is_item = none_among regions nothing_touched refl
+item_among regions guests contents part (Cpu guest vmpl npt paging) (items.Pvalidate address size validate) is_role is_item tested = absurd is_item
+item_among regions guests contents part (Cpu guest vmpl npt paging) (items.Rmpadjust address size target mask vmsa) is_role is_item tested = absurd is_item
+item_among regions guests contents part (Cpu guest vmpl npt paging) (items.Rmpupdate update) is_role is_item tested = none_among regions nothing_touched refl
+item_among regions guests contents part (Cpu guest vmpl npt paging) (items.Psmash frame) is_role is_item tested = none_among regions nothing_touched refl
+item_among regions guests contents part (Cpu guest vmpl npt paging) (items.Firmware command) is_role is_item tested = none_among regions nothing_touched refl
+item_among regions guests contents part (Cpu guest vmpl npt paging) (items.Skip count test) is_role is_item tested = none_among regions nothing_touched refl
+item_among regions guests contents part Host (items.Access address op) is_role is_item tested = frame_among regions (address / 4096) (address_among regions address is_item.0)
+item_among regions guests contents part Host (items.Pvalidate address size validate) is_role is_item tested = none_among regions nothing_touched refl
+item_among regions guests contents part Host (items.Rmpadjust address size target mask vmsa) is_role is_item tested = none_among regions nothing_touched refl
+item_among regions guests contents part Host (items.Rmpupdate update) is_role is_item tested =
+    instruction_among regions (is_bad_update (512 * regions) update) update.frame part.standing.locks (update_below (512 * regions) update) (update_locked regions contents update part.standing.locks tested.lock)
+item_among regions guests contents part Host (items.Psmash frame) is_role is_item tested =
+    instruction_among regions (is_bad_smash (512 * regions) frame) frame part.standing.locks (smash_below (512 * regions) frame) (smash_locked regions contents frame part.standing.locks tested.lock)
+item_among regions guests contents part Host (items.Firmware command) is_role is_item tested = none_among regions nothing_touched refl
+item_among regions guests contents part Host (items.Skip count test) is_role is_item tested = none_among regions nothing_touched refl
+item_among regions guests contents part Firmware (items.Access address op) is_role is_item tested = none_among regions nothing_touched refl
+item_among regions guests contents part Firmware (items.Pvalidate address size validate) is_role is_item tested = none_among regions nothing_touched refl
+item_among regions guests contents part Firmware (items.Rmpadjust address size target mask vmsa) is_role is_item tested = none_among regions nothing_touched refl
+item_among regions guests contents part Firmware (items.Rmpupdate update) is_role is_item tested = none_among regions nothing_touched refl
+item_among regions guests contents part Firmware (items.Psmash frame) is_role is_item tested = none_among regions nothing_touched refl
+item_among regions guests contents part Firmware (items.Firmware command) is_role is_item tested = absurd is_item
+item_among regions guests contents part Firmware (items.Skip count test) is_role is_item tested = none_among regions nothing_touched refl
 
 -- all that a ready actor's next event touches is there, where all regions are
-pub own_has : (bays : List Bay) (guests : List GuestSpec) (part : ActorPart) → IsReady (512 * length bays) guests part → part.item < length part.script → HasAll (512 * length bays) guests part (own_stock bays)
-own_has bays guests part ready unfinished frame touches =
+pub own_has : (bays : List Bay) (guests : List GuestSpec) (contents : Contents) (part : ActorPart) → IsReady (512 * length bays) guests part → part.item < length part.script → IsTestedAt (512 * length bays) guests contents part
+    → HasAll (512 * length bays) guests part (own_stock bays)
+own_has bays guests contents part ready unfinished tested frame touches =
     let line = ready_line (512 * length bays) guests part ready unfinished in
-    within_some bays (region_of frame) (item_among (length bays) guests part part.role (line_at part.script part.item).item ready.role line.item frame touches)
+    within_some bays (region_of frame) (item_among (length bays) guests contents part part.role (line_at part.script part.item).item ready.role line.item tested frame touches)

@@ -1,4 +1,4 @@
--- What an actor keeps of its open attempt beside its deeds: the words that its walks have read, and where its guest walk stands.
+-- What an actor keeps of its open attempt beside its deeds: the words that its walks have read, where its guest walk stands, and the locks that it has taken.
 use Rattle.std.specs.Prelude.{◌≡◌, ℕ, ◌<◌, ◌≤◌, ◌^◌, Bool, true, false, List, [], ◌∷◌, ◌++◌, length, Some}
 use Rattle.snp_model.specs.declared.event.Deed.{Deed}
 use Rattle.snp_model.specs.declared.event.Deed.TheVariants.{Nested, Table}
@@ -8,7 +8,13 @@ use Rattle.snp_model.specs.declared.walk.GuestEnd.{GuestEnd}
 use Rattle.snp_model.specs.Step.{line_at}
 use Rattle.snp_model.specs.Walking.{guest_words, nested_words}
 use Rattle.snp_model.specs.Bounds.{IsGuestInside}
+use Rattle.snp_model.specs.State.{PageLock}
+use Rattle.machine_core.specs.declared.taken_lock.TakenLock.{TakenLock}
 use Rattle.machine_core.specs.Walks.{stands_of}
+
+-- a lock that it has taken, as the model sees it
+abbrev pub page_lock_of : TakenLock → PageLock
+page_lock_of taken = record { frame = taken.frame; base = taken.base; count = taken.count }
 
 -- the words of guest tables after one more deed
 abbrev pub guest_words_with : Deed → List ℕ → List ℕ

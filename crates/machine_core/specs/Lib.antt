@@ -3,4 +3,5 @@ pub mod Bays
 pub mod Machine
 pub mod Moves
 pub mod OwnLaws
+pub mod Ranges
 pub mod Walks

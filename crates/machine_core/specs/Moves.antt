@@ -1,19 +1,46 @@
 -- What the machine's functions show of an event, against the moves of the model.
-use Rattle.std.specs.Prelude.{ℕ, Option, Some, None, Result, Ok, Err}
+use Rattle.std.specs.Prelude.{ℕ, List, [], ◌∷◌, ◌++◌, Option, Some, None, Result, Ok, Err}
 use Rattle.snp_model.specs.declared.access.Verdict.{Verdict}
 use Rattle.snp_model.specs.declared.access.Verdict.TheVariants.{Pass, Hidden, Fault}
-use Rattle.snp_model.specs.declared.event.Deed.TheVariants.{Table}
+use Rattle.snp_model.specs.declared.event.Deed.TheVariants.{Lock, Table}
 use Rattle.snp_model.specs.declared.event.Outcome.{Outcome}
 use Rattle.snp_model.specs.declared.event.Outcome.TheVariants.{Opaque}
+use Rattle.snp_model.specs.declared.event.Refusal.{Refusal}
+use Rattle.snp_model.specs.InstructionStep.{refused_outcome}
 use Rattle.snp_model.specs.Moves.{Move}
-use Rattle.snp_model.specs.State.{Standing, View}
+use Rattle.snp_model.specs.State.{PageLock, Standing, View}
 use Rattle.snp_model.specs.Walking.{Processor}
 use Rattle.machine_core.specs.declared.cpu.Processor as cpus
 use Rattle.machine_core.specs.declared.shown.Shown.{Shown}
+use Rattle.machine_core.specs.declared.taken_lock.TakenLock.{TakenLock}
+use Rattle.machine_core.specs.Actors.{page_lock_of}
 
 -- the move that an event shows, if it leaves this view, and the open attempt with this
 abbrev pub move_by : Shown → View → Standing → Move
 move_by shown after standing = record { deed = shown.deed; outcome = shown.outcome; contents = after.contents; standing = standing }
+
+-- what an open attempt has once a lock was taken, if one was
+abbrev pub with_taken : Option TakenLock → Standing → Standing
+with_taken None standing = standing
+with_taken (Some taken) standing = record standing { locks = standing.locks ++ page_lock_of taken ∷ [] }
+
+-- what an open attempt has after what an event shows, where it stays open
+abbrev pub standing_by : Shown → Standing → Standing
+standing_by shown standing = with_taken shown.lock standing
+
+-- the locks that are left once an attempt has ended so, or not: its end releases them
+abbrev pub locks_left : Option Outcome → List PageLock → List PageLock
+locks_left None locks = locks
+locks_left (Some outcome) locks = []
+
+-- the locks that an actor has after what an event shows
+abbrev pub locks_by : Shown → Standing → List PageLock
+locks_by shown standing = locks_left shown.outcome (standing_by shown standing).locks
+
+-- what an event shows that asks for a lock
+abbrev pub lock_shown : PageLock → Option Refusal → Shown
+lock_shown lock None = record { deed = Lock lock.frame; outcome = None; lock = Some (record { frame = lock.frame; base = lock.base; count = lock.count }) }
+lock_shown lock (Some refusal) = record { deed = Lock lock.frame; outcome = Some (refused_outcome refusal); lock = None }
 
 -- a processor as the model sees it
 abbrev pub processor_of : cpus.Processor → Processor
@@ -27,5 +54,5 @@ table_load (Fault outcome) word = Err outcome
 
 -- what the read of a guest table shows, by its word: the walk may then fault
 abbrev pub table_shown : Result ℕ Outcome → ℕ → ℕ → ℕ → (ℕ → Option Outcome) → Shown
-table_shown (Ok word) gpn index frame faults = record { deed = Table gpn index frame (Some word); outcome = faults word }
-table_shown (Err outcome) gpn index frame faults = record { deed = Table gpn index frame None; outcome = Some outcome }
+table_shown (Ok word) gpn index frame faults = record { deed = Table gpn index frame (Some word); outcome = faults word; lock = None }
+table_shown (Err outcome) gpn index frame faults = record { deed = Table gpn index frame None; outcome = Some outcome; lock = None }

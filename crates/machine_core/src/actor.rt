@@ -1,4 +1,4 @@
-ghost use Rattle.std.specs.Prelude.{◌≡◌, ◌++◌, ◌∷◌, [], ◌+◌, ◌<◌, ◌≤◌, ◌^◌, ◌==◌, nat_le, length, None, IfOk, IsNone};
+ghost use Rattle.std.specs.Prelude.{◌≡◌, ◌++◌, ◌∷◌, [], ◌+◌, ◌<◌, ◌≤◌, ◌^◌, ◌==◌, nat_le, nat_lt, length, None, IfOk, IsNone, IsSome};
 ghost use Rattle.snp_model.specs.Opening.{opening_part};
 ghost use Rattle.snp_model.specs.Step.{line_at, passed_over, tries_again, last_after, part_after};
 ghost use Rattle.snp_model.specs.declared.event.Event.{Event};
@@ -6,10 +6,11 @@ ghost use Rattle.snp_model.specs.State.{View};
 ghost use Rattle.snp_model.specs.Walking.{guest_words, nested_words};
 ghost use Rattle.snp_model.specs.Bounds.{IsGuestInside};
 ghost use Rattle.machine_core.specs.Actors.{IsBegun, is_nested_read};
-ghost use Rattle.machine_core.specs.Moves.{move_by};
+ghost use Rattle.machine_core.specs.Moves.{locks_by, move_by, standing_by, with_taken};
 ghost use Rattle.machine_core.specs.Walks.{IsPagingRole, stands_of};
 
 use crate::shown::Shown;
+use crate::taken_lock::TakenLock;
 use crate::walk_words::WalkWords;
 use crate::walking::{item_stands, no_walk};
 use arrayvec::ArrayVec;
@@ -28,16 +29,19 @@ pub struct ActorState {
     words: WalkWords,
     // Where the guest walk of the open attempt stands; before it opens, anywhere.
     stands: GuestEnd,
+    // The locks that the open attempt has taken, the oldest first.
+    locks: ArrayVec<TakenLock, 3>,
     last: Option<Outcome>,
 }
 
 impl Model for ActorState {
-    ghost use Rattle.snp_model.specs.State.{ActorPart, nothing_taken};
-    ghost use Rattle.machine_core.specs.Actors.{IsActorState};
+    ghost use Rattle.std.specs.Prelude.{map, None};
+    ghost use Rattle.snp_model.specs.State.{ActorPart};
+    ghost use Rattle.machine_core.specs.Actors.{IsActorState, page_lock_of};
 
     ghost Value = { ActorPart };
 
-    ghost view = { λ a. record { role = a.role; script = a.script; item = a.item; attempt = a.attempt; deeds = a.deeds.items; standing = nothing_taken; last = a.last } };
+    ghost view = { λ a. record { role = a.role; script = a.script; item = a.item; attempt = a.attempt; deeds = a.deeds.items; standing = record { locks = map page_lock_of a.locks.items; context_lock = None; computed = None }; last = a.last } };
 
     ghost invariant = { λ a. IsActorState a.role a.script a.item a.deeds.items a.words.guest.items a.words.nested.items a.stands };
 }
@@ -56,6 +60,7 @@ impl ActorState {
             deeds: ArrayVec::new(),
             words: WalkWords::new(),
             stands: no_walk(),
+            locks: ArrayVec::new(),
             last: None,
         })
     }
@@ -94,6 +99,14 @@ impl ActorState {
         ensures inside { IsGuestInside result }
     {
         self.stands
+    }
+
+    /// Whether the open attempt has taken a lock.
+    #[tactic(auto, using(crate::proofs::ActorLaws::as_many_locks))]
+    pub fn has_locked(&self) -> bool
+        ensures { result ≡ nat_lt 0 (length self.now.standing.locks) }
+    {
+        !self.locks.is_empty()
     }
 
     /// The last outcome that isn't of a skip.
@@ -142,20 +155,35 @@ impl ActorState {
         }
     }
 
-    /// Takes down what an event shows, and gives the event.
+    // The lock of the open attempt that an event has taken, if it has.
+    #[tactic(auto, using(crate::proofs::ActorLaws::as_many_locks, crate::proofs::ActorLaws::locks_push))]
+    fn take(&mut self, lock: Option<TakenLock>)
+        requires { IsSome lock → length self.old.standing.locks < 3 }
+        ensures { self.new ≡ record self.old { standing = with_taken lock self.old.standing } }
+    {
+        match lock {
+            None => {}
+            Some(lock) => self.locks.push(lock),
+        }
+    }
+
+    /// Takes down what an event shows, and gives the event: a lock that was taken is kept until the attempt ends.
     #[tactic(auto, unfolding(snp_model::specs::Step::part_after, snp_model::specs::Step::position_after))]
     pub fn take_down(&mut self, shown: &Shown) -> Event
         requires role { IsPagingRole self.old.role }
         requires unfinished { self.old.item < length self.old.script }
         requires room { IsNone shown.now.outcome → length self.old.deeds < 32 }
+        requires lock_room { IsSome shown.now.lock → length self.old.standing.locks < 3 }
         ensures event { result ≡ record { item = self.old.item; attempt = self.old.attempt; deed = shown.now.deed; outcome = shown.now.outcome } }
-        ensures part { (after : View) → self.new ≡ part_after self.old (move_by shown.now after self.old.standing) shown.now.outcome }
+        ensures part { (after : View) → self.new ≡ part_after self.old (move_by shown.now after (standing_by shown.now self.old.standing)) shown.now.outcome }
+        ensures locks { self.new.standing.locks ≡ locks_by shown.now self.old.standing }
     {
         let item = self.item as u32;
         let attempt = self.attempt;
         match shown.outcome {
             None => {
                 self.keep(shown.deed);
+                self.take(shown.lock);
                 Event {
                     item,
                     attempt,
@@ -173,6 +201,7 @@ impl ActorState {
                 }
                 self.deeds.clear();
                 self.words.clear();
+                self.locks.clear();
                 self.last = last_after(self.last, outcome);
                 Event {
                     item,

@@ -1,4 +1,4 @@
-ghost use Rattle.std.specs.Prelude.{◌≡◌, ◌%◌, ◌<◌, List, Some};
+ghost use Rattle.std.specs.Prelude.{◌≡◌, ◌%◌, ◌<◌, List, None, Some};
 ghost use Rattle.snp_model.specs.declared.entry.PageSize.TheVariants.{Small, Large};
 ghost use Rattle.snp_model.specs.declared.event.Deed.{Deed};
 ghost use Rattle.snp_model.specs.declared.scenario.GuestSpec.{GuestSpec};
@@ -21,7 +21,7 @@ pub fn guest_access<P: Parts>(parts: &mut P, frame: u32, at: &Place, op: &Op) ->
     requires slot { at.now.slot ≡ frame % 512 }
     ensures moves { (guests : List GuestSpec) (part : ActorPart) (deed : Deed) → let before = view_on (P.stock parts.old) guests in
         access_move before.contents part deed (guest_verdict (before.contents.pages frame).facts at.now op.now) op.now frame at.now.index
-        ≡ move_by (record { deed = deed; outcome = Some result }) (view_on (P.stock parts.new) guests) part.standing }
+        ≡ move_by (record { deed = deed; outcome = Some result; lock = None }) (view_on (P.stock parts.new) guests) part.standing }
     ensures locks { locks_of (P.stock parts.new) ≡ locks_of (P.stock parts.old) }
     ensures kept { P.kept parts.old parts.new }
 {
@@ -35,7 +35,7 @@ pub fn host_access<P: Parts>(parts: &mut P, frame: u32, index: u16, op: &Op) -> 
     requires index { index < 512 }
     ensures moves { (guests : List GuestSpec) (part : ActorPart) (deed : Deed) → let before = view_on (P.stock parts.old) guests in
         access_move before.contents part deed (host_verdict (before.contents.pages frame).facts op.now) op.now frame index
-        ≡ move_by (record { deed = deed; outcome = Some result }) (view_on (P.stock parts.new) guests) part.standing }
+        ≡ move_by (record { deed = deed; outcome = Some result; lock = None }) (view_on (P.stock parts.new) guests) part.standing }
     ensures locks { locks_of (P.stock parts.new) ≡ locks_of (P.stock parts.old) }
     ensures kept { P.kept parts.old parts.new }
 {

@@ -77,7 +77,8 @@ pub fn index_of(address: u64) -> u16
 #[tactic(auto, unfolding(snp_model::specs::Moves::begin_move))]
 fn begin(guests: &[GuestSpec], walker: &Walker, shown: &mut Shown)
     requires { 0 < walker.now.cpu.guest }
-    ensures { (after : View) (part : ActorPart) → begin_move after.contents part (opening_contexts guests.now walker.now.cpu.guest) (levels_of walker.now.cpu.paging) walker.now.lookup.address None ≡ move_by shown.new after part.standing }
+    ensures moves { (after : View) (part : ActorPart) → begin_move after.contents part (opening_contexts guests.now walker.now.cpu.guest) (levels_of walker.now.cpu.paging) walker.now.lookup.address None ≡ move_by shown.new after part.standing }
+    ensures unlocked { shown.new.lock ≡ None }
 {
     let outcome = if !is_running(guests, walker.cpu.guest) {
         Some(Outcome::Offline)
@@ -86,10 +87,7 @@ fn begin(guests: &[GuestSpec], walker: &Walker, shown: &mut Shown)
     } else {
         None
     };
-    *shown = Shown {
-        deed: Deed::Begin,
-        outcome,
-    };
+    *shown = Shown::quiet(Deed::Begin, outcome);
 }
 
 // The event of reading a word of a nested table.
@@ -111,19 +109,18 @@ fn read_nested<P: Parts>(
     requires has { HasFrame (P.stock parts.now) frame }
     requires index { index < 512 }
     ensures { let deed = Nested frame index (table_word (pages_of (P.stock parts.now).bays frame) index) in
-        shown.new ≡ record { deed = deed; outcome = fault_of (need_after frames (processor_of walker.now.cpu) walker.now.lookup (actor.now.deeds ++ deed ∷ [])) } }
+        shown.new ≡ record { deed = deed; outcome = fault_of (need_after frames (processor_of walker.now.cpu) walker.now.lookup (actor.now.deeds ++ deed ∷ [])); lock = None } }
 {
     let value = table_word(parts, frame, index);
     let npt = walker.cpu.npt;
     let words = actor.nested_words();
-    *shown = Shown {
-        deed: Deed::Nested {
-            frame,
-            index,
-            value,
-        },
-        outcome: fault_by_nested(frames, npt, &walker.lookup, stands, words, value),
+    let outcome = fault_by_nested(frames, npt, &walker.lookup, stands, words, value);
+    let deed = Deed::Nested {
+        frame,
+        index,
+        value,
     };
+    *shown = Shown::quiet(deed, outcome);
 }
 
 // The event of reading a word of a guest table, with its check.
@@ -140,22 +137,25 @@ fn read_table<P: Parts>(
     requires has { HasFrame (P.stock parts.now) frame }
     requires place { IsPlace place.now }
     requires slot { place.now.slot ≡ frame % 512 }
-    ensures { (frames : ℕ) → let page = pages_of (P.stock parts.now).bays frame in
+    ensures shown { (frames : ℕ) → let page = pages_of (P.stock parts.now).bays frame in
         shown.new ≡ table_shown (table_load (private_verdict page.facts place.now Load) (word_of page place.now.index)) place.now.gpn place.now.index frame
         (λ value. fault_of (need_after frames (processor_of walker.now.cpu) walker.now.lookup (actor.now.deeds ++ Table place.now.gpn place.now.index frame (Some value) ∷ []))) }
+    ensures unlocked { shown.new.lock ≡ None }
 {
     let gpn = place.gpn;
     let index = place.index as u16;
     match guest_table_word(parts, frame, place) {
-        Ok(word) => *shown = Shown {
-            deed: Deed::Table {
+        Ok(word) => {
+            let words = actor.guest_words();
+            let outcome = fault_by_table(walker.cpu.paging, &walker.lookup, words, word);
+            let deed = Deed::Table {
                 gpn,
                 index,
                 frame,
                 value: Some(word),
-            },
-            outcome: fault_by_table(walker.cpu.paging, &walker.lookup, actor.guest_words(), word),
-        },
+            };
+            *shown = Shown::quiet(deed, outcome);
+        }
         Err(outcome) => {
             let deed = Deed::Table {
                 gpn,
@@ -231,6 +231,7 @@ fn reach<P: Parts>(parts: &mut P, place: &Place, frame: u32, op: &Op, shown: &mu
     ensures moves { (guests : List GuestSpec) (part : ActorPart) → let before = view_on (P.stock parts.old) guests in
         access_move before.contents part (Access place.now.gpn place.now.index frame place.now.private) (guest_verdict (before.contents.pages frame).facts place.now op.now) op.now frame place.now.index
         ≡ move_by shown.new (view_on (P.stock parts.new) guests) part.standing }
+    ensures unlocked { shown.new.lock ≡ None }
     ensures locks { locks_of (P.stock parts.new) ≡ locks_of (P.stock parts.old) }
     ensures kept { P.kept parts.old parts.new }
 {
@@ -264,6 +265,7 @@ pub fn cpu_access<P: Parts>(
         let cpu = processor_of walker.now.cpu in
         walked_move frames guests.now before.contents actor.now cpu walker.now.lookup None (data_move guests.now before.contents actor.now cpu walker.now.lookup.address op.now) actor.now.deeds
         ≡ move_by shown.new (view_on (P.stock parts.new) guests.now) actor.now.standing }
+    ensures unlocked { shown.new.lock ≡ None }
     ensures locks { locks_of (P.stock parts.new) ≡ locks_of (P.stock parts.old) }
     ensures kept { P.kept parts.old parts.new }
 {

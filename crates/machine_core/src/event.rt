@@ -1,14 +1,16 @@
-ghost use Rattle.std.specs.Prelude.{◌≡◌, ◌<◌, List, length};
+ghost use Rattle.std.specs.Prelude.{◌≡◌, ◌<◌, List, length, None, IsSome};
 ghost use Rattle.snp_model.specs.declared.scenario.GuestSpec.{GuestSpec};
 ghost use Rattle.snp_model.specs.declared.scenario.Role.TheVariants.{Cpu, Host, Firmware};
 ghost use Rattle.snp_model.specs.Bounds.{IsCpu, IsGuestInside, IsItemOf};
+ghost use Rattle.snp_model.specs.HeldLocks.{AreItemLocks};
+ghost use Rattle.snp_model.specs.KeptLocks.{IsTestedAt, OwnsLocks, relocked};
 ghost use Rattle.snp_model.specs.Ready.{IsReady};
 ghost use Rattle.snp_model.specs.Step.{item_move, line_at, step_of};
 ghost use Rattle.snp_model.specs.Touches.{item_touches};
 ghost use Rattle.snp_model.specs.Walking.{guest_words};
 ghost use Rattle.machine_core.specs.Actors.{IsBegun};
 ghost use Rattle.machine_core.specs.Bays.{HasAll, HasTouched, locks_of, view_on};
-ghost use Rattle.machine_core.specs.Moves.{move_by};
+ghost use Rattle.machine_core.specs.Moves.{locks_by, move_by, standing_by};
 ghost use Rattle.machine_core.specs.Walks.{stands_of};
 
 use crate::actor::ActorState;
@@ -17,13 +19,17 @@ use crate::host::host_access;
 use crate::parts::Parts;
 use crate::shown::Shown;
 use crate::skip::skip;
+use crate::smash::smash_event;
+use crate::update::update_event;
 use crate::walking::lookup_of;
 use snp_model::{Event, GuestEnd, GuestSpec, Item, Role};
 
-/// Makes the next event of an unfinished actor in memory of so many frames: the step of the tables, over
-/// parts that have the regions that it touches. What it shows is written to a place that is there. Takes no memory.
+/// Makes the next event of an unfinished actor, with its number from 1, in memory of so many frames: the step of the
+/// tables, over parts that have the regions that it touches. The locks of its number are those that its open attempt has
+/// taken. What it shows is written to a place that is there. Takes no memory.
 pub(crate) fn advance<P: Parts>(
     actor: &mut ActorState,
+    number: u32,
     frames: u32,
     guests: &[GuestSpec],
     parts: &mut P,
@@ -32,15 +38,17 @@ pub(crate) fn advance<P: Parts>(
     requires ready { IsReady frames guests.now actor.old }
     requires unfinished { actor.old.item < length actor.old.script }
     requires has { HasAll frames guests.now actor.old (P.stock parts.old) }
+    requires owns { OwnsLocks number actor.old (locks_of (P.stock parts.old)).holder }
+    requires tested { IsTestedAt frames guests.now (view_on (P.stock parts.old) guests.now).contents actor.old }
     ensures event { result ≡ (step_of frames guests.now actor.old (view_on (P.stock parts.old) guests.now)).event }
     ensures part { actor.new ≡ (step_of frames guests.now actor.old (view_on (P.stock parts.old) guests.now)).part }
     ensures contents { (view_on (P.stock parts.new) guests.now).contents ≡ (step_of frames guests.now actor.old (view_on (P.stock parts.old) guests.now)).contents }
 
-    // The locks of other actors stay, and no event takes one yet.
-    ensures locks { locks_of (P.stock parts.new) ≡ locks_of (P.stock parts.old) }
+    // The locks of other actors stay.
+    ensures locks { (locks_of (P.stock parts.new)).holder ≡ relocked number actor.new.standing.locks (locks_of (P.stock parts.old)).holder }
     ensures kept { P.kept parts.old parts.new }
 {
-    next_event(parts, frames, guests, actor, shown);
+    next_event(parts, number, frames, guests, actor, shown);
     actor.take_down(shown)
 }
 
@@ -48,6 +56,7 @@ pub(crate) fn advance<P: Parts>(
 #[tactic(auto, unfolding(snp_model::specs::Step::item_move))]
 fn next_event<P: Parts>(
     parts: &mut P,
+    number: u32,
     frames: u32,
     guests: &[GuestSpec],
     actor: &ActorState,
@@ -56,9 +65,12 @@ fn next_event<P: Parts>(
     requires ready { IsReady frames guests.now actor.now }
     requires unfinished { actor.now.item < length actor.now.script }
     requires has { HasAll frames guests.now actor.now (P.stock parts.old) }
+    requires owns { OwnsLocks number actor.now (locks_of (P.stock parts.old)).holder }
+    requires tested { IsTestedAt frames guests.now (view_on (P.stock parts.old) guests.now).contents actor.now }
     ensures moves { item_move frames guests.now (view_on (P.stock parts.old) guests.now) actor.now actor.now.role (line_at actor.now.script actor.now.item).item
-        ≡ move_by shown.new (view_on (P.stock parts.new) guests.now) actor.now.standing }
-    ensures locks { locks_of (P.stock parts.new) ≡ locks_of (P.stock parts.old) }
+        ≡ move_by shown.new (view_on (P.stock parts.new) guests.now) (standing_by shown.new actor.now.standing) }
+    ensures locks { (locks_of (P.stock parts.new)).holder ≡ relocked number (locks_by shown.new actor.now.standing) (locks_of (P.stock parts.old)).holder }
+    ensures room { IsSome shown.new.lock → length actor.now.standing.locks < 3 }
     ensures kept { P.kept parts.old parts.new }
 {
     let item = actor.item();
@@ -86,7 +98,7 @@ fn next_event<P: Parts>(
                 shown,
             )
         }
-        Role::Host => host_event(parts, frames, guests, actor, item, shown),
+        Role::Host => host_event(parts, number, frames, guests, actor, item, shown),
         Role::Firmware => firmware_event(parts, frames, guests, actor, item, shown),
     }
 }
@@ -110,6 +122,7 @@ fn cpu_event<P: Parts>(
     requires has { HasTouched (item_touches frames guests.now actor.now (Cpu cpu.guest cpu.vmpl cpu.npt cpu.paging) item.now) (P.stock parts.old) }
     ensures moves { item_move frames guests.now (view_on (P.stock parts.old) guests.now) actor.now (Cpu cpu.guest cpu.vmpl cpu.npt cpu.paging) item.now
         ≡ move_by shown.new (view_on (P.stock parts.new) guests.now) actor.now.standing }
+    ensures unlocked { shown.new.lock ≡ None }
     ensures locks { locks_of (P.stock parts.new) ≡ locks_of (P.stock parts.old) }
     ensures kept { P.kept parts.old parts.new }
 {
@@ -131,9 +144,10 @@ fn cpu_event<P: Parts>(
 }
 
 // The next event of a hypervisor's processor.
-#[tactic(auto, using(crate::proofs::TouchLaws::frame_has), unfolding(snp_model::specs::Step::item_move, snp_model::specs::Touches::item_touches))]
+#[tactic(auto, using(crate::proofs::TouchLaws::frame_has, crate::proofs::HeldLaws::none_relocked), unfolding(snp_model::specs::Step::item_move, snp_model::specs::Touches::item_touches, snp_model::specs::HeldLocks::AreItemLocks))]
 fn host_event<P: Parts>(
     parts: &mut P,
+    number: u32,
     frames: u32,
     guests: &[GuestSpec],
     actor: &ActorState,
@@ -142,17 +156,22 @@ fn host_event<P: Parts>(
 )
     requires item { IsItemOf frames Host item.now }
     requires has { HasTouched (item_touches frames guests.now actor.now Host item.now) (P.stock parts.old) }
+    requires owns { OwnsLocks number actor.now (locks_of (P.stock parts.old)).holder }
+    requires tested { AreItemLocks frames guests.now (view_on (P.stock parts.old) guests.now).contents Host item.now actor.now.deeds actor.now.standing }
     ensures moves { item_move frames guests.now (view_on (P.stock parts.old) guests.now) actor.now Host item.now
-        ≡ move_by shown.new (view_on (P.stock parts.new) guests.now) actor.now.standing }
-    ensures locks { locks_of (P.stock parts.new) ≡ locks_of (P.stock parts.old) }
+        ≡ move_by shown.new (view_on (P.stock parts.new) guests.now) (standing_by shown.new actor.now.standing) }
+    ensures locks { (locks_of (P.stock parts.new)).holder ≡ relocked number (locks_by shown.new actor.now.standing) (locks_of (P.stock parts.old)).holder }
+    ensures room { IsSome shown.new.lock → length actor.now.standing.locks < 3 }
     ensures kept { P.kept parts.old parts.new }
 {
     match item {
         Item::Access { address, op } => host_access(parts, frames, *address, op, shown),
         Item::Pvalidate { .. } => *shown = Shown::misplaced(),
         Item::Rmpadjust { .. } => *shown = Shown::misplaced(),
-        Item::Rmpupdate(_) => *shown = Shown::unbuilt(),
-        Item::Psmash { .. } => *shown = Shown::unbuilt(),
+        Item::Rmpupdate(update) => {
+            update_event(parts, number, frames, guests, actor, update, shown)
+        }
+        Item::Psmash { frame } => smash_event(parts, number, frames, guests, actor, *frame, shown),
         Item::Firmware(_) => *shown = Shown::misplaced(),
         Item::Skip { count, test } => *shown = skip(actor, *count, test),
     }
@@ -169,8 +188,9 @@ fn firmware_event<P: Parts>(
     shown: &mut Shown,
 )
     requires item { IsItemOf frames Firmware item.now }
-    ensures { item_move frames guests.now (view_on (P.stock parts.now) guests.now) actor.now Firmware item.now
+    ensures moves { item_move frames guests.now (view_on (P.stock parts.now) guests.now) actor.now Firmware item.now
         ≡ move_by shown.new (view_on (P.stock parts.now) guests.now) actor.now.standing }
+    ensures unlocked { shown.new.lock ≡ None }
 {
     match item {
         Item::Access { .. } => *shown = Shown::misplaced(),

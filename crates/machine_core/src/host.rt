@@ -1,4 +1,4 @@
-ghost use Rattle.std.specs.Prelude.{◌≡◌, ◌/◌, ◌<◌, List};
+ghost use Rattle.std.specs.Prelude.{◌≡◌, ◌/◌, ◌<◌, List, None};
 ghost use Rattle.snp_model.specs.State.{ActorPart};
 ghost use Rattle.snp_model.specs.Step.{host_access};
 ghost use Rattle.snp_model.specs.declared.scenario.GuestSpec.{GuestSpec};
@@ -17,6 +17,7 @@ pub fn host_access<P: Parts>(parts: &mut P, frames: u32, address: u64, op: &Op, 
     requires within { address / 4096 < frames }
     requires has { HasFrame (P.stock parts.old) (address / 4096) }
     ensures moves { (guests : List GuestSpec) (part : ActorPart) → host_access (view_on (P.stock parts.old) guests).contents part address op.now ≡ move_by shown.new (view_on (P.stock parts.new) guests) part.standing }
+    ensures unlocked { shown.new.lock ≡ None }
     ensures locks { locks_of (P.stock parts.new) ≡ locks_of (P.stock parts.old) }
     ensures kept { P.kept parts.old parts.new }
 {

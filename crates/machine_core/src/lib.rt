@@ -2,17 +2,20 @@
 //!
 //! - `machine`: the machine; `building`: its opening; `law`: what holds of every step and run.
 //! - `event`: `advance`, one event of one actor, by its role and its item.
-//! - `actor`: an actor's own state; `walk_words`: what its walks have read; `shown`: what an event shows.
-//! - `cpu`, `host`, `skip`: the items; `walking`: what the walks of a guest's processor need next.
+//! - `actor`: an actor's own state; `walk_words`: what its walks have read; `taken_lock`: a lock that it has taken;
+//!   `shown`: what an event shows.
+//! - `cpu`, `host`, `update`, `smash`, `skip`: the items; `walking`: what the walks of a guest's processor need next.
 //! - `parts`: what is lent to an event; `bay`: one region of it; `reads`, `changes`: what an event reads of a region, and
 //!   what it reads and writes of one at once.
 //!
 //! One event goes this way: `Machine::step` lends all regions to `advance`, which asks the actor for its role and its line
 //! (`next_event`) and goes by the role (`cpu_event`, `host_event`, `firmware_event`) and the item to `cpu_access`,
-//! `host_access` or `skip`. An access of a guest's processor asks `walk_need` what it needs. A word of a table is read by
-//! `reads`, and the access itself is made by `changes`, which take the region's `Bay` from the parts: the check and the
-//! access are one call of `access_step` on it. What an event shows is written to a `Shown` of the machine's, since large
-//! values are slow to hand upward, and `ActorState::take_down` turns it into the event and the actor's next state.
+//! `host_access`, `update_event`, `smash_event` or `skip`. An access of a guest's processor asks `walk_need` what it
+//! needs. A word of a table is read by `reads`, and the access itself is made by `changes`, which take the region's `Bay`
+//! from the parts: the check and the access are one call of `access_step` on it. RMPUPDATE and PSMASH are two events, the
+//! lock and the commit, each one call of `rmp_update` on the region's `Bay`. What an event shows is written to a `Shown`
+//! of the machine's, since large values are slow to hand upward, and `ActorState::take_down` turns it into the event and
+//! the actor's next state.
 #![tactic(auto)]
 
 mod actor;
@@ -28,6 +31,9 @@ mod parts;
 mod reads;
 mod shown;
 mod skip;
+mod smash;
+mod taken_lock;
+mod update;
 mod walk_words;
 mod walking;
 

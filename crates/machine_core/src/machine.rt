@@ -69,6 +69,7 @@ impl Machine {
         let state = &mut self.actors[actor as usize - 1];
         advance(
             state,
+            actor,
             frames,
             self.guests.as_slice(),
             &mut self.parts,

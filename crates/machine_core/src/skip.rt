@@ -1,4 +1,4 @@
-ghost use Rattle.std.specs.Prelude.{◌≡◌, Some};
+ghost use Rattle.std.specs.Prelude.{◌≡◌, None, Some};
 ghost use Rattle.snp_model.specs.declared.event.Deed.TheVariants.{Control};
 ghost use Rattle.snp_model.specs.Skips.{gives, test_holds, skip_outcome};
 
@@ -9,7 +9,7 @@ use snp_model::{Deed, Outcome, SkipTest};
 /// The one event of a skip of so many items.
 #[tactic(auto, unfolding(snp_model::specs::Skips::skip_outcome))]
 pub fn skip(actor: &ActorState, count: u32, test: &SkipTest) -> Shown
-    ensures { result ≡ record { deed = Control; outcome = Some (skip_outcome count test.now actor.now.last) } }
+    ensures { result ≡ record { deed = Control; outcome = Some (skip_outcome count test.now actor.now.last); lock = None } }
 {
     let outcome = match actor.last() {
         None => Outcome::Next,

@@ -45,7 +45,7 @@ returns-then-is_empty-clause-moves g c =
     let walker = c.args.walker.now in
     let view = view_on (g.P.Parts.stock c.args.parts.now) c.args.guests.now in
     walk_begins c.args.frames c.args.guests.now view c.args.actor.now (processor_of walker.cpu) walker.lookup None _ c.args.actor.now.deeds (grind (arith, common_steps))
-    ∙ c.begin.ensures view c.args.actor.now
+    ∙ c.begin.ensures.moves view c.args.actor.now
 
 pub returns-in-Table-clause-moves : goal.returns-in-Table-clause-moves
 returns-in-Table-clause-moves g c =
@@ -58,7 +58,7 @@ returns-in-Table-clause-moves g c =
     walk_begun c.args.frames c.args.guests.now view c.args.actor.now (processor_of walker.cpu) walker.lookup None arrives c.args.actor.now.deeds c.walk_need.result (λ none. grind (arith, common_steps)) need
     ∙ ap (need_move c.args.frames c.args.guests.now view.contents c.args.actor.now (processor_of walker.cpu) walker.lookup arrives) c.in-Table.is
     ∙ table_shows c.args.frames c.args.guests.now view c.args.actor.now (processor_of walker.cpu) walker.lookup arrives c.in-Table.gpn c.in-Table.index c.in-Table.frame c.in-Table.size
-    c.table_place-place.result c.read_table.new.shown c.table_place-place.ensures.place (c.read_table.ensures c.args.frames)
+    c.table_place-place.result c.read_table.new.shown c.table_place-place.ensures.place (c.read_table.ensures.shown c.args.frames)
 
 pub read_nested-requires-clause-reads : goal.read_nested-requires-clause-reads
 read_nested-requires-clause-reads g c =

@@ -1,4 +1,4 @@
-use Rattle.std.proofs.Common.{◌≡◌, [], ◌∷◌, ◌++◌, List, ℕ, sym, ap, subst, ◌∙◌}
+use Rattle.std.proofs.Common.{◌≡◌, [], ◌∷◌, ◌++◌, List, ℕ, None, sym, ap, subst, ◌∙◌}
 use Rattle.snp_model.specs.declared.event.Deed.TheVariants.{Nested}
 use Rattle.snp_model.specs.Moves.{table_word}
 use Rattle.snp_model.specs.Walking.{walk_need, need_after, fault_of}
@@ -14,14 +14,14 @@ returns g c =
     let deeds = c.args.actor.now.deeds in
     let word = table_word (pages_of (g.P.Parts.stock c.args.parts.now).bays c.args.frame) c.args.index in
     let value : c.table_word-value.result ≡ word = c.table_word-value.ensures in
-    let fault : c.fault_by_nested.result ≡ fault_of (need_after c.args.frames (processor_of walker.cpu) walker.lookup (deeds ++ Nested c.args.frame c.args.index word ∷ [])) =
-    c.fault_by_nested.ensures
+    let fault : c.fault_by_nested-outcome.result ≡ fault_of (need_after c.args.frames (processor_of walker.cpu) walker.lookup (deeds ++ Nested c.args.frame c.args.index word ∷ [])) =
+    c.fault_by_nested-outcome.ensures
     ∙ (λ i. fault_of (walk_need c.args.frames walker.cpu.npt walker.lookup (c.requires.stands i) (c.nested_words-words.ensures i ++ value i ∷ [])))
     ∙ ap fault_of (sym (nested_read_more c.args.frames (processor_of walker.cpu) walker.lookup deeds c.args.frame c.args.index word)) in
-    λ i. record { deed = Nested c.args.frame c.args.index (value i); outcome = fault i }
+    c.quiet.ensures ∙ (λ i. record { deed = Nested c.args.frame c.args.index (value i); outcome = fault i; lock = None })
 
-pub fault_by_nested-requires-clause-reads : goal.fault_by_nested-requires-clause-reads
-fault_by_nested-requires-clause-reads g c =
+pub fault_by_nested-outcome-requires-clause-reads : goal.fault_by_nested-outcome-requires-clause-reads
+fault_by_nested-outcome-requires-clause-reads g c =
     let walker = c.args.walker.now in
     let P : List ℕ → Type 0 = λ words. IsReading (walk_need c.args.frames walker.cpu.npt walker.lookup c.args.stands words) in
     subst P (sym c.nested_words-words.ensures) c.requires.reads

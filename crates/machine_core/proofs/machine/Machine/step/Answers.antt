@@ -2,7 +2,7 @@ use Rattle.std.proofs.Common.{◌≡◌, ℕ, ◌*◌, length, ap, sym, ◌∙�
 use Rattle.snp_model.specs.State.{IsUnfinished}
 use Rattle.snp_model.specs.Step.{event_of, after}
 use Rattle.machine_core.specs.Machine.{MachineImage, state_of}
-use Rattle.machine_core.proofs.MachineLaws.{after_made, event_made, has_read, machine_made, made, ready_read}
+use Rattle.machine_core.proofs.MachineLaws.{after_made, event_made, has_read, machine_made, made, owns_read, ready_read, tested_read}
 use Rattle.machine_core.proofs.machine.Machine.step.Goals as goal
 
 pub advance-requires-clause-has : goal.advance-requires-clause-has
@@ -20,6 +20,20 @@ advance-requires-clause-ready c =
     let frames : 512 * c.len.result ≡ 512 * length bays.items = ap (λ (n : ℕ). 512 * n) (c.len.ensures ∙ bays.ok.0) in
     let unfinished = subst (λ (m : MachineImage). IsUnfinished (state_of m) c.args.actor) (sym c.self.view_is) c.requires in
     ready_read bays.items inside.guests c.as_slice.result.now inside.actors.items c.args.actor (512 * c.len.result) c.index_mut-state.result.now frames c.as_slice.ensures c.index_mut-state.ensures.value unfinished c.self.invariant
+
+pub advance-requires-clause-owns : goal.advance-requires-clause-owns
+advance-requires-clause-owns c =
+    let inside = c.self.inside in
+    let unfinished = subst (λ (m : MachineImage). IsUnfinished (state_of m) c.args.actor) (sym c.self.view_is) c.requires in
+    owns_read inside.parts.bays.items inside.guests inside.actors.items c.args.actor c.index_mut-state.result.now c.index_mut-state.ensures.value unfinished c.self.invariant
+
+pub advance-requires-clause-tested : goal.advance-requires-clause-tested
+advance-requires-clause-tested c =
+    let inside = c.self.inside in
+    let bays = inside.parts.bays in
+    let frames : 512 * c.len.result ≡ 512 * length bays.items = ap (λ (n : ℕ). 512 * n) (c.len.ensures ∙ bays.ok.0) in
+    let unfinished = subst (λ (m : MachineImage). IsUnfinished (state_of m) c.args.actor) (sym c.self.view_is) c.requires in
+    tested_read bays.items inside.guests c.as_slice.result.now inside.actors.items c.args.actor (512 * c.len.result) c.index_mut-state.result.now frames c.as_slice.ensures c.index_mut-state.ensures.value unfinished c.self.invariant
 
 pub invariant_of-self : goal.invariant_of-self
 invariant_of-self c =

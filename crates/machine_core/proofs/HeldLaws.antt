@@ -1,0 +1,173 @@
+-- What an open attempt has locked, by the item of its actor, and what an event that takes no lock leaves of the locks.
+use Rattle.std.proofs.Common.{◌≡◌, ℕ, suc, ◌/◌, ◌<◌, nat_lt, Bool, true, false, ◌||◌, List, [], ◌∷◌, length, Option, None, Some, Result, Ok, Err, refl, sym, ap, ◌∙◌, subst, arith}
+use Rattle.std.proofs.lemmas.Bool.{true≢false}
+use Rattle.std.proofs.lemmas.Bool.Decides.{nat_tests}
+use Rattle.std.specs.List.{list_any}
+use Rattle.snp_model.specs.declared.event.Deed.{Deed}
+use Rattle.snp_model.specs.declared.event.Deed.TheVariants as deeds
+use Rattle.snp_model.specs.declared.event.Outcome.{Outcome}
+use Rattle.snp_model.specs.declared.event.Refusal.{Refusal}
+use Rattle.snp_model.specs.declared.item.Item.{Item}
+use Rattle.snp_model.specs.declared.item.Item.TheVariants as items
+use Rattle.snp_model.specs.declared.scenario.GuestSpec.{GuestSpec}
+use Rattle.snp_model.specs.declared.scenario.Paging.{Paging}
+use Rattle.snp_model.specs.declared.scenario.Role.{Role}
+use Rattle.snp_model.specs.declared.scenario.Role.TheVariants.{Cpu}
+use Rattle.snp_model.specs.Bounds.{IsCpuItem, IsItemOf}
+use Rattle.snp_model.specs.Entries.{refusal_answer}
+use Rattle.snp_model.specs.HeldLocks.{AreInstructionLocks, AreItemLocks, IsOneLock}
+use Rattle.snp_model.specs.KeptLocks.{IsTestedAt, OwnsLocks, relocked}
+use Rattle.snp_model.specs.Locks.{covers, locks_frame}
+use Rattle.snp_model.specs.InstructionStep.{instruction_lock}
+use Rattle.snp_model.specs.Moves.{Move, lock_move, memory_move}
+use Rattle.snp_model.specs.Opening.{opening_contexts}
+use Rattle.snp_model.specs.State.{ActorPart, Contents, PageLock, Pages, Standing, View, nothing_taken}
+use Rattle.snp_model.specs.Ready.{IsReady}
+use Rattle.snp_model.specs.Step.{line_at}
+use Rattle.snp_model.specs.Touches.{frame_touched, instruction_touches}
+use Rattle.snp_model.proofs.RangeLaws.{also_touched}
+use Rattle.snp_model.proofs.ReadyLaws.{ready_line}
+use Rattle.rmp_update.specs.Regions.{region_answer}
+use Rattle.machine_core.specs.declared.shown.Shown.{Shown}
+use Rattle.machine_core.specs.declared.taken_lock.TakenLock.{TakenLock}
+use Rattle.machine_core.specs.Bays.{HasFrame, HasTouched, Stock, contents_of, holders_of, locks_of, pages_of, view_on}
+use Rattle.machine_core.specs.Moves.{lock_shown, locks_by, locks_left, move_by, standing_by, with_taken}
+use Rattle.machine_core.specs.Ranges.{HoldsLock, HoldsNone}
+use Rattle.machine_core.proofs.RangeLaws.{relocked_none}
+
+-- an item of a guest's processor has locked nothing
+pub cpu_rests : (frames : ℕ) (guests : List GuestSpec) (contents : Contents) (guest vmpl npt : ℕ) (paging : Paging) (item : Item) (made : List Deed) (standing : Standing)
+    → IsCpuItem item → AreItemLocks frames guests contents (Cpu guest vmpl npt paging) item made standing → standing ≡ nothing_taken
+unfolding AreItemLocks
+cpu_rests frames guests contents guest vmpl npt paging (items.Access address op) made standing is_item locks = locks
+cpu_rests frames guests contents guest vmpl npt paging (items.Pvalidate address size validate) made standing is_item locks = absurd is_item
+cpu_rests frames guests contents guest vmpl npt paging (items.Rmpadjust address size target mask vmsa) made standing is_item locks = absurd is_item
+cpu_rests frames guests contents guest vmpl npt paging (items.Rmpupdate update) made standing is_item locks = locks
+cpu_rests frames guests contents guest vmpl npt paging (items.Psmash frame) made standing is_item locks = locks
+cpu_rests frames guests contents guest vmpl npt paging (items.Firmware command) made standing is_item locks = locks
+cpu_rests frames guests contents guest vmpl npt paging (items.Skip count test) made standing is_item locks = locks
+
+-- so has the open attempt of an actor that is such a processor
+pub cpu_part_rests : (frames : ℕ) (guests : List GuestSpec) (contents : Contents) (guest vmpl npt : ℕ) (paging : Paging) (part : ActorPart)
+    → part.role ≡ Cpu guest vmpl npt paging → IsReady frames guests part → part.item < length part.script → IsTestedAt frames guests contents part → part.standing ≡ nothing_taken
+cpu_part_rests frames guests contents guest vmpl npt paging part role_is ready unfinished tested =
+    let item = (line_at part.script part.item).item in
+    let is_item = subst (λ (r : Role). IsItemOf frames r item) role_is (ready_line frames guests part ready unfinished).item in
+    cpu_rests frames guests contents guest vmpl npt paging item part.deeds part.standing is_item (subst (λ (r : Role). AreItemLocks frames guests contents r item part.deeds part.standing) role_is tested)
+
+-- so its actor holds no lock
+holds_none : (actor : ℕ) (part : ActorPart) (stock : Stock) → OwnsLocks actor part (holders_of stock.bays) → part.standing ≡ nothing_taken → HoldsNone actor stock
+holds_none actor part stock owns none frame held = true≢false (sym (owns.only frame held) ∙ ap (λ (s : Standing). locks_frame frame (record part { standing = s })) none)
+
+none_left : (outcome : Option Outcome) (lock : Option TakenLock) (standing : Standing) → lock ≡ None → standing ≡ nothing_taken → locks_left outcome (with_taken lock standing).locks ≡ []
+none_left None lock standing no_lock none = λ i. (with_taken (no_lock i) (none i)).locks
+none_left (Some outcome) lock standing no_lock none = refl
+
+-- and an event that takes none leaves all locks
+pub none_relocked : (actor : ℕ) (part : ActorPart) (shown : Shown) (old new : Stock) → OwnsLocks actor part (holders_of old.bays) → part.standing ≡ nothing_taken → shown.lock ≡ None → locks_of new ≡ locks_of old
+    → holders_of new.bays ≡ relocked actor (locks_by shown part.standing) (holders_of old.bays)
+none_relocked actor part shown old new owns none no_lock same =
+    (λ i. (same i).holder)
+    ∙ sym (relocked_none actor (holders_of old.bays) (holds_none actor part old owns none))
+    ∙ ap (λ (locks : List PageLock). relocked actor locks (holders_of old.bays)) (sym (none_left shown.outcome shown.lock part.standing no_lock none))
+
+-- an instruction has locked one page, where it has locked any
+pub record HasOne (Holds : PageLock → Type 0) (locks : List PageLock) : Type 0 where
+  pub lock : PageLock
+  pub are : locks ≡ lock ∷ []
+  pub holds : Holds lock
+
+pub has_one : (Holds : PageLock → Type 0) (locks : List PageLock) → nat_lt 0 (length locks) ≡ true → IsOneLock Holds locks → HasOne Holds locks
+has_one Holds [] some one = absurd (true≢false (sym some))
+has_one Holds (lock ∷ others) some one = record { lock = lock; are = ap (λ (ls : List PageLock). lock ∷ ls) one.1; holds = one.0 }
+
+some_lock : (others : List PageLock) → nat_lt 0 (suc (length others)) ≡ true
+some_lock others = grind (arith, nat_tests)
+
+no_locks : (locks : List PageLock) → nat_lt 0 (length locks) ≡ false → locks ≡ []
+no_locks [] none = refl
+no_locks (lock ∷ others) none = absurd (true≢false (sym (some_lock others) ∙ none))
+
+pub has_none : (Holds : PageLock → Type 0) (standing : Standing) → nat_lt 0 (length standing.locks) ≡ false → AreInstructionLocks Holds standing → standing ≡ nothing_taken
+has_none Holds standing none locks = λ i. record { locks = no_locks standing.locks none i; context_lock = locks.context i; computed = locks.computed i }
+
+or_false : (b : Bool) → (b || false) ≡ b
+or_false true = refl
+or_false false = refl
+
+-- its actor holds that page alone
+pub holds_lock : (actor : ℕ) (part : ActorPart) (lock : PageLock) (stock : Stock) → OwnsLocks actor part (holders_of stock.bays) → part.standing.locks ≡ lock ∷ [] → HoldsLock actor lock stock
+holds_lock actor part lock stock owns are =
+    let covered = λ (frame : ℕ). ap (λ (ls : List PageLock). list_any (covers frame) ls) are ∙ or_false (covers frame lock) in
+    record {
+      has = λ frame covers_it. owns.has frame (covered frame ∙ covers_it);
+      only = λ frame held. sym (covered frame) ∙ owns.only frame held;
+    }
+
+-- the frame of an instruction that isn't refused at once is there, and that of one that has locked
+pub lock_has : (refused : Bool) (frame : ℕ) (locks : List PageLock) (stock : Stock) → HasTouched (instruction_touches refused frame locks) stock → nat_lt 0 (length locks) ≡ false → refused ≡ false → HasFrame stock frame
+unfolding instruction_touches
+lock_has true frame locks stock has none fine = absurd (true≢false fine)
+lock_has false frame [] stock has none fine = has frame (grind (arith, nat_tests))
+lock_has false frame (lock ∷ others) stock has none fine = absurd (true≢false (sym (some_lock others) ∙ none))
+
+pub commit_has : (refused : Bool) (frame : ℕ) (locks : List PageLock) (stock : Stock) → HasTouched (instruction_touches refused frame locks) stock → nat_lt 0 (length locks) ≡ true → HasFrame stock frame
+unfolding instruction_touches
+commit_has refused frame [] stock has some = absurd (true≢false (sym some))
+commit_has refused frame (lock ∷ others) stock has some = has frame (also_touched (lock ∷ others) (frame_touched frame) frame (grind (arith, nat_tests)))
+
+-- the region that an instruction names, or its refusal
+pub record IsFound (bad : Bool) (frame region : ℕ) : Type 0 where
+  pub fine : bad ≡ false
+  pub region_is : region ≡ frame / 512
+
+pub region_found : (bad : Bool) (frame region : ℕ) (answer : Result ℕ ℕ) → answer ≡ Ok region → answer ≡ region_answer bad frame → IsFound bad frame region
+region_found true frame region answer is found = absurd (let e = sym is ∙ found in cc)
+region_found false frame region answer is found = let e = sym is ∙ found in record { fine = refl; region_is = cc }
+
+pub record IsBad (bad : Bool) (status : ℕ) : Type 0 where
+  pub bad_is : bad ≡ true
+  pub status_is : status ≡ 1
+
+pub region_refused : (bad : Bool) (frame status : ℕ) (answer : Result ℕ ℕ) → answer ≡ Err status → answer ≡ region_answer bad frame → IsBad bad status
+region_refused true frame status answer is found = let e = sym is ∙ found in record { bad_is = refl; status_is = cc }
+region_refused false frame status answer is found = absurd (let e = sym is ∙ found in cc)
+
+-- the answer to a lock that is asked for
+pub answer_refused : (refusal : Option Refusal) (why : Refusal) (answer : Result (Unit {0}) Refusal) → answer ≡ Err why → answer ≡ refusal_answer refusal → refusal ≡ Some why
+answer_refused None why answer is found = absurd (let e = sym is ∙ found in cc)
+answer_refused (Some refusal) why answer is found = let e = sym is ∙ found in cc
+
+pub answer_passed : (refusal : Option Refusal) (unit : Unit {0}) (answer : Result (Unit {0}) Refusal) → answer ≡ Ok unit → answer ≡ refusal_answer refusal → refusal ≡ None
+answer_passed None unit answer is found = refl
+answer_passed (Some refusal) unit answer is found = absurd (let e = sym is ∙ found in cc)
+
+-- what is shown of it
+pub shown_refused : (lock : PageLock) (why : Refusal) (refusal : Option Refusal) (shown : Shown) → shown ≡ lock_shown lock (Some why) → refusal ≡ Some why → shown ≡ lock_shown lock refusal
+shown_refused lock why refusal shown is refused = is ∙ ap (lock_shown lock) (sym refused)
+
+pub shown_locked : (lock : PageLock) (taken : TakenLock) (refusal : Option Refusal) (shown : Shown) → shown ≡ record { deed = deeds.Lock taken.frame; outcome = None; lock = Some taken }
+    → taken ≡ record { frame = lock.frame; base = lock.base; count = lock.count } → refusal ≡ None → shown ≡ lock_shown lock refusal
+shown_locked lock taken refusal shown is taken_is passed =
+    is ∙ ap (λ (t : TakenLock). let s : Shown = record { deed = deeds.Lock t.frame; outcome = None; lock = Some t } in s) taken_is ∙ ap (lock_shown lock) (sym passed)
+
+-- the move of a lock that is asked for
+pub lock_shows : (view : View) (part : ActorPart) (lock : PageLock) (refusal : Option Refusal) → instruction_lock view part lock refusal ≡ move_by (lock_shown lock refusal) view (standing_by (lock_shown lock refusal) part.standing)
+unfolding lock_move
+lock_shows view part lock None = refl
+lock_shows view part lock (Some refusal) = refl
+
+-- what is shown of an event that leaves memory
+pub quiet_shows : (guests : List GuestSpec) (part : ActorPart) (old new : Stock) (same shown : Shown) → shown ≡ same → pages_of new.bays ≡ pages_of old.bays
+    → move_by same (view_on old guests) (standing_by same part.standing) ≡ move_by shown (view_on new guests) (standing_by shown part.standing)
+quiet_shows guests part old new same shown is pages =
+    ap (λ (s : Shown). move_by s (view_on old guests) (standing_by s part.standing)) (sym is)
+    ∙ ap (λ (p : Pages). let m : Move = record { deed = shown.deed; outcome = shown.outcome; contents = record (contents_of old guests) { pages = p }; standing = standing_by shown part.standing } in m) (sym pages)
+
+-- and of a commit
+pub committed : (old : Contents) (part : ActorPart) (deed : Deed) (outcome : Outcome) (pages : Pages) (guests : List GuestSpec) (new : Stock) (shown : Shown)
+    → shown ≡ record { deed = deed; outcome = Some outcome; lock = None } → pages_of new.bays ≡ pages → old.contexts ≡ opening_contexts guests
+    → memory_move old part deed (Some outcome) pages ≡ move_by shown (view_on new guests) (standing_by shown part.standing)
+committed old part deed outcome pages guests new shown is pages_are contexts =
+    (λ i. let m : Move = record { deed = deed; outcome = Some outcome; contents = record { pages = sym pages_are i; contexts = contexts i }; standing = part.standing } in m)
+    ∙ ap (λ (s : Shown). move_by s (view_on new guests) (standing_by s part.standing)) (sym is)
