@@ -3,20 +3,19 @@ use Rattle.std.proofs.Common.{◌≡◌, ℕ, zero, suc, ◌+◌, ◌*◌, ◌/�
 use Rattle.std.specs.Prelude.{slice_get}
 use Rattle.std.proofs.lemmas.List.{get_or-replicate}
 use Rattle.std.specs.List.{AllByRecursion}
-use Rattle.snp_model.specs.declared.entry.RmpEntry.{RmpEntry}
 use Rattle.snp_model.specs.declared.item.Line.{Line}
 use Rattle.snp_model.specs.declared.scenario.Actor.{Actor}
 use Rattle.snp_model.specs.declared.scenario.GuestSpec.{GuestSpec}
 use Rattle.snp_model.specs.declared.scenario.Scenario.{Scenario}
 use Rattle.snp_model.specs.Attempts.{script_attempts, actors_attempts, attempts_of}
 use Rattle.snp_model.specs.Facts.{free_entry}
-use Rattle.snp_model.specs.KeptLocks.{AreWholePages, KeepsLocks}
+use Rattle.snp_model.specs.KeptLocks.{KeepsLocks}
 use Rattle.snp_model.specs.Locks.{context_holder_from, holder_from, view_of}
 use Rattle.snp_model.specs.Opening.{opening, opening_part, opening_contexts, facts_from, words_from}
 use Rattle.snp_model.specs.Ready.{AreReady}
 use Rattle.snp_model.specs.Shapes.{AreShaped}
 use Rattle.snp_model.specs.Sound.{IsSound}
-use Rattle.snp_model.specs.State.{ActorPart, Page, State, zero_words}
+use Rattle.snp_model.specs.State.{ActorPart, Page, zero_words}
 use Rattle.snp_model.proofs.LockedRuns.{opening_keeps_locks, shaped_whole}
 use Rattle.snp_model.proofs.ReadyLaws.{opening_ready}
 use Rattle.machine_core.specs.Machine.{IsMachine, state_of}

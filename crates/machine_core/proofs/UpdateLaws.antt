@@ -13,7 +13,7 @@ use Rattle.snp_model.specs.Facts.{frames_in, free_entry}
 use Rattle.snp_model.specs.HeldLocks.{IsUpdateLock}
 use Rattle.snp_model.specs.InstructionStep.{update_move}
 use Rattle.snp_model.specs.KeptLocks.{relocked}
-use Rattle.snp_model.specs.Locks.{in_range, over, range_lock}
+use Rattle.snp_model.specs.Locks.{over, range_lock}
 use Rattle.snp_model.specs.RegionWords.{page_at}
 use Rattle.snp_model.specs.RmpUpdate.{is_bad_update, pages_updated, update_lock, update_range_refusal, update_refusal, updated_page}
 use Rattle.snp_model.specs.State.{ActorPart, Page, PageLock, Standing, nothing_taken}

@@ -1,4 +1,4 @@
-use Rattle.std.proofs.Common.{None, refl, sym, ap, ◌∙◌, arith}
+use Rattle.std.proofs.Common.{refl, arith}
 use Rattle.snp_model.specs.Locks.{page_lock}
 use Rattle.snp_model.specs.RmpUpdate.{is_bad_smash}
 use Rattle.machine_core.specs.Bays.{pages_of}

@@ -1,4 +1,3 @@
-use Rattle.std.proofs.Common.{◌/◌}
 use Rattle.machine_core.proofs.UpdateLaws.{commit_locks, commit_pages, range_held, range_tested}
 use Rattle.machine_core.proofs.update.commit_range.Goals as goal
 

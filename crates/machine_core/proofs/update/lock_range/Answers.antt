@@ -1,5 +1,4 @@
-use Rattle.std.proofs.Common.{None, refl, sym, ap, ◌∙◌, arith}
-use Rattle.snp_model.specs.declared.event.Refusal.TheVariants.{Status}
+use Rattle.std.proofs.Common.{None, refl, arith}
 use Rattle.snp_model.specs.RmpUpdate.{is_bad_update, update_lock}
 use Rattle.machine_core.specs.Ranges.{update_refused}
 use Rattle.machine_core.proofs.HeldLaws.{answer_passed, answer_refused, region_found, region_refused, shown_locked, shown_refused}

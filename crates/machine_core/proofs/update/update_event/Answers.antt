@@ -1,8 +1,8 @@
-use Rattle.std.proofs.Common.{sym, ap, ◌∙◌}
+use Rattle.std.proofs.Common.{sym, ◌∙◌}
 use Rattle.snp_model.specs.HeldLocks.{IsUpdateLock}
 use Rattle.snp_model.specs.RmpUpdate.{is_bad_update}
 use Rattle.machine_core.specs.Bays.{contents_of}
-use Rattle.machine_core.proofs.HeldLaws.{commit_has, has_none, has_one, holds_lock, lock_has}
+use Rattle.machine_core.proofs.HeldLaws.{commit_has, has_none, has_one, lock_has}
 use Rattle.machine_core.proofs.UpdateLaws.{commit_moves, lock_moves, update_tested}
 use Rattle.machine_core.proofs.update.update_event.Goals as goal
 
