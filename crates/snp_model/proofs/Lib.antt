@@ -1,3 +1,4 @@
+pub mod AcceptLaws
 pub mod Adding
 pub mod AttemptLaws
 pub mod Chains
@@ -51,6 +52,7 @@ pub mod SealLaws
 pub mod ShapeLaws
 pub mod SoundLaws
 pub mod TestedLaws
+pub mod TestedPages
 pub mod TestedRanges
 pub mod UpdateLaws
 pub mod UseLaws

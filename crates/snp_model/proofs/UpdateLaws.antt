@@ -58,7 +58,7 @@ lessens_fine guest asid archive memory old new before less whole fits = record {
 }
 
 -- a change over a range, frame by frame
-over_frames : (P : Page → Page → Type 0) (base count : ℕ) (change : ℕ → Page → Page) (pages : Pages)
+pub over_frames : (P : Page → Page → Type 0) (base count : ℕ) (change : ℕ → Page → Page) (pages : Pages)
     → ((f : ℕ) → P (pages f) (pages f)) → ((f : ℕ) → in_range base count f ≡ true → P (change (f - base) (pages f)) (pages f))
     → (f : ℕ) → P (over base count change pages f) (pages f)
 over_frames P base count change pages beside inside f = cond_both (in_range base count f) _ _ (λ (page : Page). P page (pages f)) (inside f) (λ outside. beside f)
