@@ -56,3 +56,4 @@ pub mod TestedPages
 pub mod TestedRanges
 pub mod UpdateLaws
 pub mod UseLaws
+pub mod ValidateUseLaws
