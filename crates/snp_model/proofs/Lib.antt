@@ -18,6 +18,7 @@ pub mod HolderLaws
 pub mod InstructionLocality
 pub mod ItemSoundLaws
 pub mod ItemUseLaws
+pub mod LargeInstructions
 pub mod LargeItems
 pub mod LargePages
 pub mod LineLaws
