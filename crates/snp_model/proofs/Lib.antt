@@ -6,6 +6,9 @@ pub mod CipherLaws
 pub mod CommandLaws
 pub mod ContextLaws
 pub mod CoreLaws
+pub mod DisciplineLaws
+pub mod DisciplinedItems
+pub mod DisciplinedLaws
 pub mod EntriesLaws
 pub mod FindingLaws
 pub mod FirmwareLocality
