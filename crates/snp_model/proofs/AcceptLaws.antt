@@ -3,15 +3,14 @@ use Rattle.std.proofs.Common.{◌≡◌, ◌⊎◌, ℕ, zero, suc, true, false,
 use Rattle.std.specs.FinMap.{get}
 use Rattle.std.proofs.lemmas.Bool.{true≢false, cond-true, cond-false}
 use Rattle.std.proofs.lemmas.Option.{none-some}
-use Rattle.snp_model.specs.declared.firmware.MetaEntry.{MetaEntry}
 use Rattle.snp_model.specs.GuestMemory.{Places, Memory, IsHeld, known, unknown_places, with_pages, without_pages}
 use Rattle.snp_model.specs.Holders.{Holder, InFrame, Sealed, IsHeldAs, Holds, Core}
-use Rattle.snp_model.specs.Live.{Vault, Spot, InEntry, InRoot, Under, IsOwn, IsLive}
+use Rattle.snp_model.specs.Live.{Vault, Spot}
 use Rattle.snp_model.specs.Locks.{in_range}
-use Rattle.snp_model.specs.State.{Page, Pages}
+use Rattle.snp_model.specs.State.{Pages}
 use Rattle.snp_model.proofs.LockedItems.{by_range}
 use Rattle.snp_model.proofs.MemoryLaws.{place_in, get_with_pages, get_without_pages}
-use Rattle.snp_model.proofs.UpdateLaws.{with_memory}
+use Rattle.snp_model.proofs.UpdateLaws.{KeepsMetadata, Lessens, with_memory, live_before, held_before}
 
 -- what a memory holds and knows after the pages of a range are set
 
@@ -55,7 +54,7 @@ unknown_at index = no_place 512 index
 -- what holds a page held it before, with the same words, or it holds a page of a range, of which there is one place for each, with words that the places know
 pub record Gains (asid : ℕ) (old new : Vault) (base count : ℕ) (places : Places) (place : ℕ → Holder) : Type 0 where
   pub from : (gpn : ℕ) (x : Holder) (u : List ℕ) → Holds asid new gpn x u → Holds asid old gpn x u ⊎ ((in_range base count gpn ≡ true) × (x ≡ place gpn))
-  pub agree : (gpn : ℕ) (x : Holder) (u : List ℕ) (index word : ℕ) → in_range base count gpn ≡ true → Holds asid new gpn x u → get_or places index None ≡ Some word → get_or u index 0 ≡ word
+  pub agree : (gpn : ℕ) (u : List ℕ) (index word : ℕ) → in_range base count gpn ≡ true → Holds asid new gpn (place gpn) u → get_or places index None ≡ Some word → get_or u index 0 ≡ word
 
 -- the memory lacks the pages of a range
 abbrev pub LacksRange : Memory → ℕ → ℕ → Type 0
@@ -95,7 +94,9 @@ core_gains asid old new memory base count places place gains lacks core =
           (λ outside none. core.held gpn x u (old_at gpn x u outside hx) (sym (with_pages_keeps base count places memory gpn outside) ∙ none));
       agree = λ gpn x u index word hx k.
           by_range (in_range base count gpn) (get_or u index 0 ≡ word)
-          (λ inside. gains.agree gpn x u index word inside hx (sym (with_pages_known base count places memory gpn index inside) ∙ k))
+          (λ inside.
+          let here = subst (λ (y : Holder). Holds asid new gpn y u) (new_at gpn x u inside hx) hx in
+          gains.agree gpn u index word inside here (sym (with_pages_known base count places memory gpn index inside) ∙ k))
           (λ outside. core.agree gpn x u index word (old_at gpn x u outside hx) (sym (with_pages_known_before base count places memory gpn index outside) ∙ k));
     }
 
@@ -114,62 +115,47 @@ core_rescinds asid old new memory base count loses core = record {
       core.agree gpn x u index word before.1 (sym (without_pages_known base count memory gpn index before.0) ∙ k);
 }
 
--- changes of memory that leave words and kinds, and so all entries
+-- changes of memory, frame by frame
 
-pub record KeepsEntries (new old : Page) : Type 0 where
-  pub words : new.words ≡ old.words
-  pub kind : new.facts.kind ≡ old.facts.kind
-
-live_before : (asid : ℕ) (vault : Vault) (new : Pages) → ((f : ℕ) → KeepsEntries (new f) (vault.pages f))
-    → (s : Spot) (entry : MetaEntry) → IsLive asid (with_memory new vault) s entry → IsLive asid vault s entry
-live_before asid vault new keeps (InEntry f number) entry live = record {
-  metadata = sym (keeps f).kind ∙ live.metadata;
-  own = subst (λ (words : List ℕ). IsOwn asid vault.context.iv words number entry) (keeps f).words live.own;
-}
-live_before asid vault new keeps InRoot entry live = live
-live_before asid vault new keeps (Under s number) entry live = (live.0, live_before asid vault new keeps s live.0 live.1, live.2)
-
-pub sealed_before : (asid : ℕ) (vault : Vault) (new : Pages) → ((f : ℕ) → KeepsEntries (new f) (vault.pages f))
+sealed_before : (asid : ℕ) (vault : Vault) (new : Pages) → ((f : ℕ) → KeepsMetadata (new f) (vault.pages f))
     → (gpn : ℕ) (s : Spot) (u : List ℕ) → Holds asid (with_memory new vault) gpn (Sealed s) u → Holds asid vault gpn (Sealed s) u
 sealed_before asid vault new keeps gpn s u h = (h.0, live_before asid vault new keeps s h.0 h.1, h.2, h.3)
 
--- frames gain pages of a range, whose words are unknown
-pub record FramesGain (asid : ℕ) (old new : Pages) (base count : ℕ) (place : ℕ → ℕ) : Type 0 where
-  pub entries : (f : ℕ) → KeepsEntries (new f) (old f)
-  pub from : (gpn f : ℕ) → IsHeldAs (new f).facts asid gpn → IsHeldAs (old f).facts asid gpn ⊎ ((in_range base count gpn ≡ true) × (f ≡ place gpn))
+-- a frame that holds a page held it before, with its words, or it holds a page of a range, with words that the places know
+pub record FramesGain (asid : ℕ) (old new : Pages) (base count : ℕ) (places : Places) (place : ℕ → ℕ) : Type 0 where
+  pub metadata : (f : ℕ) → KeepsMetadata (new f) (old f)
+  pub from : (gpn f : ℕ) → IsHeldAs (new f).facts asid gpn → (IsHeldAs (old f).facts asid gpn × ((new f).words ≡ (old f).words)) ⊎ ((in_range base count gpn ≡ true) × (f ≡ place gpn))
+  pub agree : (gpn index word : ℕ) → in_range base count gpn ≡ true → IsHeldAs (new (place gpn)).facts asid gpn → get_or places index None ≡ Some word → get_or (new (place gpn)).words index 0 ≡ word
 
-gained_from : (asid : ℕ) (vault : Vault) (new : Pages) (base count : ℕ) (place : ℕ → ℕ) → FramesGain asid vault.pages new base count place
+gained_from : (asid : ℕ) (vault : Vault) (new : Pages) (base count : ℕ) (places : Places) (place : ℕ → ℕ) → FramesGain asid vault.pages new base count places place
     → (gpn : ℕ) (x : Holder) (u : List ℕ) → Holds asid (with_memory new vault) gpn x u → Holds asid vault gpn x u ⊎ ((in_range base count gpn ≡ true) × (x ≡ InFrame (place gpn)))
-gained_from asid vault new base count place gain gpn (InFrame f) u h =
+gained_from asid vault new base count places place gain gpn (InFrame f) u h =
     ⊎_elim
-    (λ (before : IsHeldAs (vault.pages f).facts asid gpn). inl (before, h.1 ∙ (gain.entries f).words))
+    (λ (before : IsHeldAs (vault.pages f).facts asid gpn × ((new f).words ≡ (vault.pages f).words)). inl (before.0, h.1 ∙ before.1))
     (λ (is : (in_range base count gpn ≡ true) × (f ≡ place gpn)). inr (is.0, ap (λ (k : ℕ). InFrame k) is.1))
     (gain.from gpn f h.0)
-gained_from asid vault new base count place gain gpn (Sealed s) u h = inl (sealed_before asid vault new gain.entries gpn s u h)
+gained_from asid vault new base count places place gain gpn (Sealed s) u h = inl (sealed_before asid vault new gain.metadata gpn s u h)
 
-pub frames_gain : (asid : ℕ) (vault : Vault) (memory : Memory) (new : Pages) (base count : ℕ) (place : ℕ → ℕ) → FramesGain asid vault.pages new base count place → LacksRange memory base count
-    → Core asid vault memory → Core asid (with_memory new vault) (with_pages base count unknown_places memory)
-frames_gain asid vault memory new base count place gain lacks core =
-    core_gains asid vault (with_memory new vault) memory base count unknown_places (λ gpn. InFrame (place gpn))
-    (record { from = gained_from asid vault new base count place gain; agree = λ gpn x u index word inside h k. absurd (none-some word (sym (unknown_at index) ∙ k)) }) lacks core
+pub frames_gain : (asid : ℕ) (vault : Vault) (memory : Memory) (new : Pages) (base count : ℕ) (places : Places) (place : ℕ → ℕ) → FramesGain asid vault.pages new base count places place → LacksRange memory base count
+    → Core asid vault memory → Core asid (with_memory new vault) (with_pages base count places memory)
+frames_gain asid vault memory new base count places place gain lacks core =
+    core_gains asid vault (with_memory new vault) memory base count places (λ gpn. InFrame (place gpn))
+    (record {
+      from = gained_from asid vault new base count places place gain;
+      agree = λ gpn u index word inside h k. ap (λ (words : List ℕ). get_or words index 0) h.1 ∙ gain.agree gpn index word inside h.0 k;
+    }) lacks core
 
--- the frames that hold the pages of a range lose them
+-- a frame that holds a page held it before, with its words, and the frames that held the pages of a range hold them no more
 pub record FramesLose (asid : ℕ) (old new : Pages) (base count : ℕ) (place : ℕ → ℕ) : Type 0 where
-  pub entries : (f : ℕ) → KeepsEntries (new f) (old f)
-  pub from : (gpn f : ℕ) → IsHeldAs (new f).facts asid gpn → IsHeldAs (old f).facts asid gpn
+  pub less : (f : ℕ) → Lessens asid (new f) (old f)
   pub held : (gpn : ℕ) → in_range base count gpn ≡ true → IsHeldAs (old (place gpn)).facts asid gpn
   pub lost : (gpn : ℕ) → in_range base count gpn ≡ true → IsHeldAs (new (place gpn)).facts asid gpn → ⊥
 
-held_from : (asid : ℕ) (vault : Vault) (new : Pages) (base count : ℕ) (place : ℕ → ℕ) → FramesLose asid vault.pages new base count place
-    → (gpn : ℕ) (x : Holder) (u : List ℕ) → Holds asid (with_memory new vault) gpn x u → Holds asid vault gpn x u
-held_from asid vault new base count place lose gpn (InFrame f) u h = (lose.from gpn f h.0, h.1 ∙ (lose.entries f).words)
-held_from asid vault new base count place lose gpn (Sealed s) u h = sealed_before asid vault new lose.entries gpn s u h
-
--- no page of the range is held: its one holder was the frame that has lost it
+-- so no page of the range is held: its one holder was the frame that has lost it
 lost_from : (asid : ℕ) (vault : Vault) (memory : Memory) (new : Pages) (base count : ℕ) (place : ℕ → ℕ) → FramesLose asid vault.pages new base count place → Core asid vault memory
     → (gpn : ℕ) (x : Holder) (u : List ℕ) → Holds asid (with_memory new vault) gpn x u → in_range base count gpn ≡ true → ⊥
 lost_from asid vault memory new base count place lose core gpn x u h inside =
-    let before = held_from asid vault new base count place lose gpn x u h in
+    let before = held_before asid vault new lose.less gpn x u h in
     let own = (vault.pages (place gpn)).words in
     let one : x ≡ InFrame (place gpn) = core.unique gpn x (InFrame (place gpn)) u own before (lose.held gpn inside, refl) in
     let here : Holds asid (with_memory new vault) gpn (InFrame (place gpn)) u = subst (λ (y : Holder). Holds asid (with_memory new vault) gpn y u) one h in
@@ -182,6 +168,6 @@ frames_lose asid vault memory new base count place lose core =
     (record {
       from = λ gpn x u h. (
         by_range (in_range base count gpn) (in_range base count gpn ≡ false) (λ inside. absurd (lost_from asid vault memory new base count place lose core gpn x u h inside)) (λ outside. outside),
-        held_from asid vault new base count place lose gpn x u h,
+        held_before asid vault new lose.less gpn x u h,
       );
     }) core

@@ -3,6 +3,7 @@ use Rattle.std.proofs.Common.{◌≡◌, ◌⊎◌, ℕ, ◌+◌, ◌-◌, ◌<�
 use Rattle.std.proofs.lemmas.Bool.{cond_both, eqb-true, eqb-false, true≢false, cond-true, cond-false}
 use Rattle.std.proofs.lemmas.Bool.Decides.{nat_tests}
 use Rattle.std.proofs.lemmas.List.{length_push}
+use Rattle.std.proofs.lemmas.Option.{none-some}
 use Rattle.snp_model.specs.declared.entry.PageSize.{PageSize}
 use Rattle.snp_model.specs.declared.entry.PageSize.TheVariants.{Small, Large}
 use Rattle.snp_model.specs.declared.entry.RmpEntry.{RmpEntry}
@@ -13,7 +14,7 @@ use Rattle.snp_model.specs.declared.item.Item.{Item}
 use Rattle.snp_model.specs.declared.item.Item.TheVariants as items
 use Rattle.snp_model.specs.declared.scenario.GuestSpec.{GuestSpec}
 use Rattle.snp_model.specs.Facts.{frames_in}
-use Rattle.snp_model.specs.GuestMemory.{Memory, Use, Untouched, Reads, Writes, Exchanges, Compares, Accepts, Rescinds, Launches, use_of_validation, use_of, firmware_use, use_for, used}
+use Rattle.snp_model.specs.GuestMemory.{Memory, Use, Untouched, Reads, Writes, Exchanges, Compares, Accepts, Rescinds, Launches, use_of_validation, use_of, firmware_use, use_for, used, unknown_places}
 use Rattle.snp_model.specs.HeldLocks.{validate_test, IsWalkedLock, IsOneLock}
 use Rattle.snp_model.specs.Holders.{IsHeldAs}
 use Rattle.snp_model.specs.InstructionStep.{facts_of, page_lookup, page_place, validate_begin, adjust_begin, validate_move, adjust_move, cpu_validate, cpu_adjust}
@@ -25,7 +26,7 @@ use Rattle.snp_model.specs.Opening.{asid_of}
 use Rattle.snp_model.specs.State.{Page, Pages, PageLock, Contents, ActorPart, View}
 use Rattle.snp_model.specs.Validation.{carry, validated_facts, validated_page, pages_validated, adjusted_facts, adjusted_page, pages_adjusted}
 use Rattle.snp_model.specs.Walking.{Processor}
-use Rattle.snp_model.proofs.AcceptLaws.{LacksRange, KeepsEntries, FramesGain, frames_gain, FramesLose, frames_lose}
+use Rattle.snp_model.proofs.AcceptLaws.{LacksRange, unknown_at, FramesGain, frames_gain, FramesLose, frames_lose}
 use Rattle.snp_model.proofs.CoreLaws.{KindFits, AreFit}
 use Rattle.snp_model.proofs.ItemUseLaws.{lock_fine}
 use Rattle.snp_model.proofs.LargePages.{AreLargeWhole}
@@ -34,7 +35,7 @@ use Rattle.snp_model.proofs.LockedWalks.{role_of}
 use Rattle.snp_model.proofs.OpenAttemptsLaws.{arrived_move}
 use Rattle.snp_model.proofs.TestedPages.{IsTestedPage, validate_passes, lock_tested}
 use Rattle.snp_model.proofs.TestedLaws.{not_false}
-use Rattle.snp_model.proofs.UpdateLaws.{Lessens, lessens_itself, lessens_fine, over_frames}
+use Rattle.snp_model.proofs.UpdateLaws.{KeepsMetadata, Lessens, lessens_itself, lessens_fine, over_frames}
 use Rattle.snp_model.proofs.UseLaws.{AreWhole, Owns, Before, Fine, MoveFine, untouched_for, ArrivesFine, walked_fine}
 
 -- what is asked of a use: no page that it makes held is held before it
@@ -48,11 +49,11 @@ LacksAccepted memory (Accepts gpn count) = LacksRange memory gpn count
 LacksAccepted memory (Rescinds gpn count) = Unit {0}
 LacksAccepted memory (Launches gpn words) = LacksRange memory gpn 1
 
--- so a use that a guest's memory lets leads from a state to another as it should
+-- an event with this use leads from a state to another as it should, where the memory lacks the pages that it makes held
 abbrev pub FineWhereLacking : ℕ → ℕ → Archive → Memory → Contents → Contents → Use → Type 0
 FineWhereLacking guest asid archive memory old new does = LacksAccepted memory does → Fine guest asid archive memory old new does
 
--- and so a move
+-- so a move of an item of a guest's processor
 abbrev pub MoveFineWhereLacking : ℕ → ℕ → Archive → Memory → Contents → Processor → Item → Move → Type 0
 MoveFineWhereLacking guest asid archive memory old cpu item move =
     LacksAccepted memory (use_for guest move.contents (role_of cpu) move.deed item move.outcome) → MoveFine guest asid archive memory old (role_of cpu) item move
@@ -82,6 +83,9 @@ unchanged_is validate own lock pages f carried =
     (λ inside. inside_is validate own lock pages f inside ∙ ap (λ (facts : RmpEntry). record (pages f) { facts = facts }) (same_facts validate own (pages f).facts carried))
     (λ beside. beside_is validate own lock pages f beside)
 
+beside_lessens : (asid : ℕ) (validate : Bool) (own : RmpEntry) (lock : PageLock) (pages : Pages) (f : ℕ) → covers f lock ≡ false → Lessens asid (pages_validated validate own lock pages f) (pages f)
+beside_lessens asid validate own lock pages f beside = subst (λ (page : Page). Lessens asid page (pages f)) (sym (beside_is validate own lock pages f beside)) (lessens_itself asid (pages f))
+
 -- what a frame keeps whatever the carry flag is: all but Validated
 record KeepsOwner (new old : RmpEntry) : Type 0 where
   assigned : new.assigned ≡ old.assigned
@@ -106,8 +110,8 @@ words_at : (validate : Bool) (own : RmpEntry) (lock : PageLock) (pages : Pages) 
 unfolding pages_validated
 words_at validate own lock pages f = cond_both (covers f lock) _ _ (λ (new : Page). new.words ≡ (pages f).words) (λ _. refl) (λ _. refl)
 
-entries_at : (validate : Bool) (own : RmpEntry) (lock : PageLock) (pages : Pages) (f : ℕ) → KeepsEntries (pages_validated validate own lock pages f) (pages f)
-entries_at validate own lock pages f = record { words = words_at validate own lock pages f; kind = (owner_at validate own lock pages f).kind }
+metadata_at : (validate : Bool) (own : RmpEntry) (lock : PageLock) (pages : Pages) (f : ℕ) → KeepsMetadata (pages_validated validate own lock pages f) (pages f)
+metadata_at validate own lock pages f is = (sym (owner_at validate own lock pages f).kind ∙ is, words_at validate own lock pages f)
 
 validated_whole : (validate : Bool) (own : RmpEntry) (lock : PageLock) (pages : Pages) → AreWhole pages → AreWhole (pages_validated validate own lock pages)
 validated_whole validate own lock pages whole f = ap (λ (words : List ℕ). length words) (words_at validate own lock pages f) ∙ whole f
@@ -120,7 +124,7 @@ validated_fits validate own lock pages fits f =
       immutable = λ used_by. keeps.immutable ∙ (fits f).immutable (λ plain. used_by (keeps.kind ∙ plain));
     }
 
--- the page numbers of a page, and its frames
+-- a page whose frames and guest page numbers go together: the frame of a page number, and the page number of a frame
 
 frame_place : (base gpn count f q : ℕ) → in_range base count f ≡ true → q + base ≡ gpn + f → f ≡ base + (q - gpn)
 frame_place base gpn count f q inside follow =
@@ -148,7 +152,7 @@ place_gpn base gpn count q p inside follow =
     let low : gpn ≤ q = grind (arith, nat_tests) in
     omega arith
 
--- the frame of a page number
+-- the frame of a page number, which the lock covers
 abbrev place_of : ℕ → PageLock → ℕ → ℕ
 place_of gpn lock q = lock.base + (q - gpn)
 
@@ -158,18 +162,19 @@ place_covered pages asid gpn size lock q tested inside =
 
 -- a commit that validates the guest's own page: its frames hold it, and what held before still holds
 own_gains : (asid gpn : ℕ) (size : PageSize) (validate : Bool) (own : RmpEntry) (lock : PageLock) (pages : Pages) → IsTestedPage pages asid gpn size lock
-    → FramesGain asid pages (pages_validated validate own lock pages) gpn (frames_in size) (place_of gpn lock)
+    → FramesGain asid pages (pages_validated validate own lock pages) gpn (frames_in size) unknown_places (place_of gpn lock)
 own_gains asid gpn size validate own lock pages tested =
     let new = pages_validated validate own lock pages in
     record {
-      entries = entries_at validate own lock pages;
+      metadata = metadata_at validate own lock pages;
       from = λ q f h.
-          by_range (covers f lock) (IsHeldAs (pages f).facts asid q ⊎ ((in_range gpn (frames_in size) q ≡ true) × (f ≡ place_of gpn lock q)))
+          by_range (covers f lock) ((IsHeldAs (pages f).facts asid q × ((new f).words ≡ (pages f).words)) ⊎ ((in_range gpn (frames_in size) q ≡ true) × (f ≡ place_of gpn lock q)))
           (λ inside.
           let named : (pages f).facts.gpn ≡ q = sym (owner_at validate own lock pages f).gpn ∙ h.gpn_is in
           let follow : q + lock.base ≡ gpn + f = ap (λ (p : ℕ). p + lock.base) (sym named) ∙ tested.follow f inside in
           inr (subst (λ (n : ℕ). in_range gpn n q ≡ true) tested.count_is (gpn_inside lock.base gpn lock.count f q inside follow), frame_place lock.base gpn lock.count f q inside follow))
-          (λ beside. inl (subst (λ (page : Page). IsHeldAs page.facts asid q) (beside_is validate own lock pages f beside) h));
+          (λ beside. inl (subst (λ (page : Page). IsHeldAs page.facts asid q) (beside_is validate own lock pages f beside) h, words_at validate own lock pages f));
+      agree = λ q index word inside h k. absurd (none-some word (sym (unknown_at index) ∙ k));
     }
 
 -- a commit that rescinds it: its frames held it, and hold it no more
@@ -184,11 +189,10 @@ own_loses : (asid gpn : ℕ) (size : PageSize) (lock : PageLock) (pages : Pages)
 own_loses asid gpn size lock pages tested valid =
     let own = (pages lock.frame).facts in
     record {
-      entries = entries_at false own lock pages;
-      from = λ q f h.
-          by_range (covers f lock) (IsHeldAs (pages f).facts asid q)
-          (λ inside. absurd (rescinded_none asid own lock pages f q valid inside h))
-          (λ beside. subst (λ (page : Page). IsHeldAs page.facts asid q) (beside_is false own lock pages f beside) h);
+      less = λ f.
+          by_range (covers f lock) (Lessens asid (pages_validated false own lock pages f) (pages f))
+          (λ inside. record { held = λ q h. absurd (rescinded_none asid own lock pages f q valid inside h); metadata = metadata_at false own lock pages f })
+          (λ beside. beside_lessens asid false own lock pages f beside);
       held = λ q inside.
           let there = place_covered pages asid gpn size lock q tested inside in
           let alike = tested.alike (place_of gpn lock q) there in
@@ -201,18 +205,13 @@ own_loses asid gpn size lock pages tested valid =
       lost = λ q inside h. rescinded_none asid own lock pages (place_of gpn lock q) q valid (place_covered pages asid gpn size lock q tested inside) h;
     }
 
--- a commit of another guest's, and one that changes nothing
+-- a commit of another guest's makes no holder of this guest's pages, and takes none
 other_lessens : (asid other gpn : ℕ) (size : PageSize) (validate : Bool) (own : RmpEntry) (lock : PageLock) (pages : Pages) → (other ≡ asid → ⊥) → IsTestedPage pages other gpn size lock
     → (f : ℕ) → Lessens asid (pages_validated validate own lock pages f) (pages f)
 other_lessens asid other gpn size validate own lock pages apart tested f =
     by_range (covers f lock) (Lessens asid (pages_validated validate own lock pages f) (pages f))
-    (λ inside.
-    let keeps = owner_at validate own lock pages f in
-    record {
-      held = λ q h. absurd (apart (sym (tested.alike f inside).asid_is ∙ sym keeps.asid ∙ h.asid_is));
-      metadata = λ is. (sym keeps.kind ∙ is, words_at validate own lock pages f);
-    })
-    (λ beside. subst (λ (page : Page). Lessens asid page (pages f)) (sym (beside_is validate own lock pages f beside)) (lessens_itself asid (pages f)))
+    (λ inside. record { held = λ q h. absurd (apart (sym (tested.alike f inside).asid_is ∙ sym (owner_at validate own lock pages f).asid ∙ h.asid_is)); metadata = metadata_at validate own lock pages f })
+    (λ beside. beside_lessens asid validate own lock pages f beside)
 
 -- the use of a commit, by whose it is, the carry flag and what was asked
 abbrev use_by : Bool → Bool → Bool → ℕ → ℕ → Use
@@ -239,7 +238,7 @@ own_fine guest asid archive memory old gpn size true lock before tested changes 
     let own = (old.pages lock.frame).facts in
     record {
       legal = tt;
-      core = frames_gain asid (vault_of guest old archive) memory (pages_validated true own lock old.pages) gpn (frames_in size) (place_of gpn lock) (own_gains asid gpn size true own lock old.pages tested) lacks before.core;
+      core = frames_gain asid (vault_of guest old archive) memory (pages_validated true own lock old.pages) gpn (frames_in size) unknown_places (place_of gpn lock) (own_gains asid gpn size true own lock old.pages tested) lacks before.core;
       whole = validated_whole true own lock old.pages before.whole;
       fits = validated_fits true own lock old.pages before.fits;
     }
