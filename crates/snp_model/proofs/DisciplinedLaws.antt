@@ -18,7 +18,7 @@ use Rattle.snp_model.specs.Step.{line_at, event_of, after}
 use Rattle.snp_model.proofs.CoreLaws.{AreFit}
 use Rattle.snp_model.proofs.DisciplinedItems.{IsNoCommand, proved_no_command, processor_item_fine, processor_step_large}
 use Rattle.snp_model.proofs.DisciplineLaws.{next_lacks}
-use Rattle.snp_model.proofs.GuestMemoryLaws.{owns_after, opening_keeps}
+use Rattle.snp_model.proofs.GuestMemoryLaws.{Keeps, owns_after, opening_keeps}
 use Rattle.snp_model.proofs.LargePages.{AreLargeWhole}
 use Rattle.snp_model.proofs.LockedLaws.{step_keeps_locks}
 use Rattle.snp_model.proofs.LockedRuns.{part_walking}
@@ -52,7 +52,7 @@ step_fine guest asid archive m memory actor unfinished lacks keeps =
     (record { core = keeps.core; whole = keeps.whole; fits = keeps.fits }) (keeps.owns actor) keeps.large (keeps.locks.tested (actor - 1)) (part_walking m actor keeps.walking unfinished) lacks).fine
 
 -- so the next state keeps the same
-step_keeps : (guest asid : ℕ) (archive : Archive) (m : State) (memory : Memory) (actor : ℕ) → IsUnfinished m actor → LacksAccepted memory (next_use guest m actor) → KeepsMemory guest asid archive m memory
+pub step_keeps : (guest asid : ℕ) (archive : Archive) (m : State) (memory : Memory) (actor : ℕ) → IsUnfinished m actor → LacksAccepted memory (next_use guest m actor) → KeepsMemory guest asid archive m memory
     → KeepsMemory guest asid archive (after m actor) (used (next_use guest m actor) memory)
 step_keeps guest asid archive m memory actor unfinished lacks keeps =
     let fine = step_fine guest asid archive m memory actor unfinished lacks keeps in
@@ -88,21 +88,23 @@ disciplined_legal guest asid archive m memory (a ∷ s) defined disciplined keep
       disciplined_legal guest asid archive (after m a) (used (next_use guest m a) memory) s defined.1 disciplined.1 (step_keeps guest asid archive m memory a defined.0 lacks keeps),
     )
 
+-- what is proved for any guest is so for a disciplined one
+pub keeps_memory : (guest asid : ℕ) (archive : Archive) (m : State) (memory : Memory) → Keeps guest asid archive m memory → KeepsMemory guest asid archive m memory
+keeps_memory guest asid archive m memory keeps = record {
+  core = keeps.core;
+  whole = keeps.whole;
+  fits = keeps.fits;
+  owns = keeps.owns;
+  known = λ actor place. proved_no_command _ _ (keeps.known actor place);
+  locks = keeps.locks;
+  walking = keeps.walking;
+  large = keeps.large;
+}
+
 -- so from the opening of a sound scenario on
 pub opening_keeps_memory : (c : Scenario) (guest : ℕ) (archive : Archive) → IsSound c → 0 < guest → guest ≤ length c.guests
     → KeepsMemory guest (asid_of c.guests guest) archive (opening c) (opening_memory c guest)
-opening_keeps_memory c guest archive sound some most =
-    let keeps = opening_keeps c guest archive sound some most in
-    record {
-      core = keeps.core;
-      whole = keeps.whole;
-      fits = keeps.fits;
-      owns = keeps.owns;
-      known = λ actor place. proved_no_command _ _ (keeps.known actor place);
-      locks = keeps.locks;
-      walking = keeps.walking;
-      large = keeps.large;
-    }
+opening_keeps_memory c guest archive sound some most = keeps_memory guest (asid_of c.guests guest) archive (opening c) (opening_memory c guest) (opening_keeps c guest archive sound some most)
 
 -- each page of a disciplined guest has at most one holder, with the words of the guest's memory
 pub disciplined_core : (c : Scenario) (s : List ℕ) (archive : Archive) → IsSound c → IsDefined c s → (guest : ℕ) → 0 < guest → guest ≤ length c.guests → IsDisciplined c s guest

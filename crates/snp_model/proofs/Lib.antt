@@ -58,6 +58,7 @@ pub mod SoundLaws
 pub mod TestedLaws
 pub mod TestedPages
 pub mod TestedRanges
+pub mod UnownedLaws
 pub mod UpdateLaws
 pub mod UseLaws
 pub mod ValidateUseLaws
