@@ -62,7 +62,7 @@ step_fine guest asid archive m memory actor keeps =
     keeps.large (keeps.locks.tested (actor - 1))).fine
 
 -- each actor is of the guest that it was of
-owns_after : (guest asid : ℕ) (m : State) (actor other : ℕ) → RoleOwns guest asid m.guests (part_of m other).role → RoleOwns guest asid (after m actor).guests (part_of (after m actor) other).role
+pub owns_after : (guest asid : ℕ) (m : State) (actor other : ℕ) → RoleOwns guest asid m.guests (part_of m other).role → RoleOwns guest asid (after m actor).guests (part_of (after m actor) other).role
 unfolding after
 owns_after guest asid m actor other owns = subst (RoleOwns guest asid m.guests) (sym (after_keeps m actor other).role) owns
 

@@ -23,7 +23,7 @@ use Rattle.snp_model.proofs.UpdateLaws.{update_fine, smash_fine}
 use Rattle.snp_model.proofs.UseLaws.{RoleOwns, IsProved, Before, MoveFine, quiet_fine, misplaced_fine, data_fine, walked_fine, host_fine}
 
 -- an event that takes a lock, or ends with a refusal, does nothing
-lock_fine : (guest asid : ℕ) (archive : Archive) (memory : Memory) (old : Contents) (part : ActorPart) (role : Role) (item : Item) (lock : PageLock) (refusal : Option Outcome)
+pub lock_fine : (guest asid : ℕ) (archive : Archive) (memory : Memory) (old : Contents) (part : ActorPart) (role : Role) (item : Item) (lock : PageLock) (refusal : Option Outcome)
     → Before guest asid archive memory old → MoveFine guest asid archive memory old role item (lock_move old part lock refusal)
 unfolding lock_move use_of firmware_use
 lock_fine guest asid archive memory old part role item lock None before = record {

@@ -28,8 +28,8 @@ same_facts_whole old new same whole =
     (record { same = λ f _. same f; was_small = λ f is. absurd (true≢false (sym is)); is_small = λ f is. absurd (true≢false (sym is)) }) whole
 
 -- an event leaves them whole
-record LeavesLarge (move : Move) : Type 0 where
-  large : AreLargeWhole move.contents.pages
+pub record LeavesLarge (move : Move) : Type 0 where
+  pub large : AreLargeWhole move.contents.pages
 
 -- an actor that has taken nothing changes no facts
 none_locked : (part : ActorPart) (frame : ℕ) → part.standing ≡ nothing_taken → locks_frame frame part ≡ false
@@ -41,7 +41,7 @@ idle_large m part role item move idle locks whole = record {
 }
 
 -- an event that takes a lock, or ends with a refusal, changes nothing
-lock_large : (contents : Contents) (part : ActorPart) (lock : PageLock) (refusal : Option Outcome) → AreLargeWhole contents.pages → LeavesLarge (lock_move contents part lock refusal)
+pub lock_large : (contents : Contents) (part : ActorPart) (lock : PageLock) (refusal : Option Outcome) → AreLargeWhole contents.pages → LeavesLarge (lock_move contents part lock refusal)
 unfolding lock_move
 lock_large contents part lock None whole = record { large = whole }
 lock_large contents part lock (Some outcome) whole = record { large = whole }
@@ -59,7 +59,7 @@ smash_large frames view part frame [] tested whole = lock_large view.contents pa
 smash_large frames view part frame (lock ∷ others) tested whole = record { large = smashed_large frames view.contents frame lock tested.0 whole }
 
 -- so each item's event
-item_large : (m : State) (part : ActorPart) (role : Role) (item : Item) → IsProved role item → AreItemLocks m.frames m.guests m.contents role item part.deeds part.standing
+pub item_large : (m : State) (part : ActorPart) (role : Role) (item : Item) → IsProved role item → AreItemLocks m.frames m.guests m.contents role item part.deeds part.standing
     → MoveLocks m part role item (item_move m.frames m.guests (view_of m) part role item) → AreLargeWhole m.contents.pages → LeavesLarge (item_move m.frames m.guests (view_of m) part role item)
 unfolding AreItemLocks item_move
 item_large m part (Cpu guest vmpl npt paging) (items.Access address op) known tested locks whole = idle_large m part (Cpu guest vmpl npt paging) (items.Access address op) _ tested locks whole

@@ -37,7 +37,7 @@ pub whole_page : (pages : Pages) → AreLargeWhole pages → (frame : ℕ) → (
 whole_page pages whole frame large = record { aligned = whole.aligned frame large; together = λ other same. whole.together frame other large (sym same) }
 
 -- the first frame of a frame's page of 2 MB is in the same region
-base_region : (f : ℕ) → AreOfOneRegion f (page_base Large f)
+pub base_region : (f : ℕ) → AreOfOneRegion f (page_base Large f)
 base_region f = omega arith
 
 one_page_same : (old new : Pages) (f g : ℕ) → (new f).facts ≡ (old f).facts → (new g).facts ≡ (old g).facts → AreOfOnePage old f g → AreOfOnePage new f g

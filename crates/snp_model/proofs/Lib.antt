@@ -1,3 +1,4 @@
+pub mod AcceptLaws
 pub mod Adding
 pub mod AttemptLaws
 pub mod Chains
@@ -5,6 +6,9 @@ pub mod CipherLaws
 pub mod CommandLaws
 pub mod ContextLaws
 pub mod CoreLaws
+pub mod DisciplineLaws
+pub mod DisciplinedItems
+pub mod DisciplinedLaws
 pub mod EntriesLaws
 pub mod FindingLaws
 pub mod FirmwareLocality
@@ -17,6 +21,7 @@ pub mod HolderLaws
 pub mod InstructionLocality
 pub mod ItemSoundLaws
 pub mod ItemUseLaws
+pub mod LargeInstructions
 pub mod LargeItems
 pub mod LargePages
 pub mod LineLaws
@@ -51,6 +56,9 @@ pub mod SealLaws
 pub mod ShapeLaws
 pub mod SoundLaws
 pub mod TestedLaws
+pub mod TestedPages
 pub mod TestedRanges
+pub mod UnownedLaws
 pub mod UpdateLaws
 pub mod UseLaws
+pub mod ValidateUseLaws

@@ -71,7 +71,7 @@ pub own_covered : (size : PageSize) (frame : ℕ) → covers frame (page_lock si
 own_covered Small frame = grind (arith, nat_tests)
 own_covered Large frame = region_page frame frame refl
 
-small_covered : (frame g : ℕ) → covers g (page_lock Small frame) ≡ true → g ≡ frame
+pub small_covered : (frame g : ℕ) → covers g (page_lock Small frame) ≡ true → g ≡ frame
 small_covered frame g inside = grind (arith, nat_tests)
 
 -- where a frame isn't locked, no frame of its page is
@@ -96,7 +96,7 @@ pub record IsFree (pages : Pages) (actors : List ActorPart) (lock : PageLock) : 
 pub small_not_large : (size : PageSize) → size ≡ Small → size ≡ Large → ⊥
 small_not_large size a b = cc
 
-page_whole : (pages : Pages) (frame : ℕ) (size : PageSize) → (pages frame).facts.size ≡ size
+pub page_whole : (pages : Pages) (frame : ℕ) (size : PageSize) → (pages frame).facts.size ≡ size
     → (f g : ℕ) → covers f (page_lock size frame) ≡ true → (pages f).facts.size ≡ Large → AreOfOneRegion f g → covers g (page_lock size frame) ≡ true
 page_whole pages frame Small size_is f g inside large same =
     absurd (small_not_large (pages f).facts.size (subst (λ (k : ℕ). (pages k).facts.size ≡ Small) (sym (small_covered frame f inside)) size_is) large)

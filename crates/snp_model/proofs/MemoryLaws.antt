@@ -17,7 +17,7 @@ get_inserted : (memory : Memory) (k : ℕ) (v : Places) (q : ℕ) → get (inser
 get_inserted memory k v q = get-insert nat_cmp_total memory k v q ∙ ap (λ (b : Bool). cond b (Some v) (get memory q)) (same_test q k)
 
 -- a place of a page that may be there
-abbrev place_in : Option Places → ℕ → Option ℕ
+abbrev pub place_in : Option Places → ℕ → Option ℕ
 place_in page index = unwrap_or (option_map (λ (places : Places). get_or places index None) page) None
 
 abbrev set_in : ℕ → ℕ → Option Places → Option Places

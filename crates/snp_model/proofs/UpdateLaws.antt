@@ -16,10 +16,14 @@ use Rattle.snp_model.specs.State.{Page, Pages, PageLock, Contents, zero_words}
 use Rattle.snp_model.proofs.CoreLaws.{KindFits, AreFit, core_shrinks}
 use Rattle.snp_model.proofs.UseLaws.{AreWhole, metadata_not_plain, Before, Fine}
 
+-- a page that is a metadata page after a change is the one that it was
+abbrev pub KeepsMetadata : Page → Page → Type 0
+KeepsMetadata new old = new.facts.kind ≡ kinds.Metadata → (old.facts.kind ≡ kinds.Metadata) × (new.words ≡ old.words)
+
 -- a page after a change keeps what it holds of a guest, or holds nothing; a metadata page is the one that it was
 pub record Lessens (asid : ℕ) (new old : Page) : Type 0 where
   pub held : (gpn : ℕ) → IsHeldAs new.facts asid gpn → IsHeldAs old.facts asid gpn × (new.words ≡ old.words)
-  pub metadata : new.facts.kind ≡ kinds.Metadata → (old.facts.kind ≡ kinds.Metadata) × (new.words ≡ old.words)
+  pub metadata : KeepsMetadata new old
 
 pub lessens_itself : (asid : ℕ) (page : Page) → Lessens asid page page
 lessens_itself asid page = record { held = λ gpn h. (h, refl); metadata = λ is. (is, refl) }
@@ -28,18 +32,19 @@ lessens_itself asid page = record { held = λ gpn h. (h, refl); metadata = λ is
 abbrev pub with_memory : Pages → Vault → Vault
 with_memory pages vault = record vault { pages = pages }
 
-live_before : (asid : ℕ) (vault : Vault) (new : Pages) → ((f : ℕ) → Lessens asid (new f) (vault.pages f))
+-- which makes no entry live
+pub live_before : (asid : ℕ) (vault : Vault) (new : Pages) → ((f : ℕ) → KeepsMetadata (new f) (vault.pages f))
     → (s : Spot) (entry : MetaEntry) → IsLive asid (with_memory new vault) s entry → IsLive asid vault s entry
-live_before asid vault new less (InEntry f number) entry live =
-    let before = (less f).metadata live.metadata in
+live_before asid vault new keeps (InEntry f number) entry live =
+    let before = keeps f live.metadata in
     record { metadata = before.0; own = subst (λ (words : List ℕ). IsOwn asid vault.context.iv words number entry) before.1 live.own }
-live_before asid vault new less InRoot entry live = live
-live_before asid vault new less (Under s number) entry live = (live.0, live_before asid vault new less s live.0 live.1, live.2)
+live_before asid vault new keeps InRoot entry live = live
+live_before asid vault new keeps (Under s number) entry live = (live.0, live_before asid vault new keeps s live.0 live.1, live.2)
 
-held_before : (asid : ℕ) (vault : Vault) (new : Pages) → ((f : ℕ) → Lessens asid (new f) (vault.pages f))
+pub held_before : (asid : ℕ) (vault : Vault) (new : Pages) → ((f : ℕ) → Lessens asid (new f) (vault.pages f))
     → (gpn : ℕ) (x : Holder) (u : List ℕ) → Holds asid (with_memory new vault) gpn x u → Holds asid vault gpn x u
 held_before asid vault new less gpn (InFrame f) u h = let before = (less f).held gpn h.0 in (before.0, h.1 ∙ before.1)
-held_before asid vault new less gpn (Sealed s) u h = (h.0, live_before asid vault new less s h.0 h.1, h.2, h.3)
+held_before asid vault new less gpn (Sealed s) u h = (h.0, live_before asid vault new (λ f. (less f).metadata) s h.0 h.1, h.2, h.3)
 
 pub core_lessens : (asid : ℕ) (vault : Vault) (memory : Memory) (new : Pages) → ((f : ℕ) → Lessens asid (new f) (vault.pages f))
     → Core asid vault memory → Core asid (with_memory new vault) memory
@@ -58,7 +63,7 @@ lessens_fine guest asid archive memory old new before less whole fits = record {
 }
 
 -- a change over a range, frame by frame
-over_frames : (P : Page → Page → Type 0) (base count : ℕ) (change : ℕ → Page → Page) (pages : Pages)
+pub over_frames : (P : Page → Page → Type 0) (base count : ℕ) (change : ℕ → Page → Page) (pages : Pages)
     → ((f : ℕ) → P (pages f) (pages f)) → ((f : ℕ) → in_range base count f ≡ true → P (change (f - base) (pages f)) (pages f))
     → (f : ℕ) → P (over base count change pages f) (pages f)
 over_frames P base count change pages beside inside f = cond_both (in_range base count f) _ _ (λ (page : Page). P page (pages f)) (inside f) (λ outside. beside f)

@@ -89,7 +89,7 @@ pub record IsIdle (deed : Deed) (item : Item) (outcome : Option Outcome) : Type 
   pub processors : use_of deed item outcome ≡ Untouched
   pub firmware : (guest : ℕ) (left : Contents) → firmware_use guest left deed item outcome ≡ Untouched
 
-untouched_for : (guest : ℕ) (left : Contents) (role : Role) (deed : Deed) (item : Item) (outcome : Option Outcome) → IsIdle deed item outcome → use_for guest left role deed item outcome ≡ Untouched
+pub untouched_for : (guest : ℕ) (left : Contents) (role : Role) (deed : Deed) (item : Item) (outcome : Option Outcome) → IsIdle deed item outcome → use_for guest left role deed item outcome ≡ Untouched
 unfolding use_for
 untouched_for guest left (Cpu owner vmpl npt paging) deed item outcome e = cond_both (eqb owner guest) _ _ (λ (does : Use). does ≡ Untouched) (λ _. e.processors) (λ _. refl)
 untouched_for guest left Host deed item outcome e = refl

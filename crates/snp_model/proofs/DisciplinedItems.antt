@@ -1,0 +1,99 @@
+-- What an event of any item of a processor does to the pages of a guest and to pages of 2 MB, PVALIDATE and RMPADJUST among them, where the guest's memory lacks what the event makes held.
+use Rattle.std.proofs.Common.{ℕ, ◌-◌, Bool, List}
+use Rattle.snp_model.specs.declared.entry.PageSize.{PageSize}
+use Rattle.snp_model.specs.declared.item.Item.{Item}
+use Rattle.snp_model.specs.declared.item.Item.TheVariants as items
+use Rattle.snp_model.specs.declared.scenario.GuestSpec.{GuestSpec}
+use Rattle.snp_model.specs.declared.scenario.Paging.{Paging}
+use Rattle.snp_model.specs.declared.scenario.Role.{Role}
+use Rattle.snp_model.specs.declared.scenario.Role.TheVariants.{Cpu, Firmware}
+use Rattle.snp_model.specs.GuestMemory.{Memory, use_for}
+use Rattle.snp_model.specs.HeldLocks.{AreItemLocks}
+use Rattle.snp_model.specs.KeptLocks.{KeepsLocks}
+use Rattle.snp_model.specs.Live.{Archive}
+use Rattle.snp_model.specs.Locks.{view_of}
+use Rattle.snp_model.specs.OpenAttempts.{IsAttempt, IsWalking}
+use Rattle.snp_model.specs.State.{ActorPart, State, View, part_of}
+use Rattle.snp_model.specs.Step.{item_move, line_at, after}
+use Rattle.snp_model.proofs.ItemUseLaws.{item_fine}
+use Rattle.snp_model.proofs.LargeInstructions.{validate_large, adjust_large}
+use Rattle.snp_model.proofs.LargeItems.{LeavesLarge, item_large}
+use Rattle.snp_model.proofs.LargePages.{AreLargeWhole}
+use Rattle.snp_model.proofs.LockedLaws.{move_locks}
+use Rattle.snp_model.proofs.LockedMoves.{MoveLocks}
+use Rattle.snp_model.proofs.UseLaws.{RoleOwns, IsProved, Before, MoveFine}
+use Rattle.snp_model.proofs.ValidateUseLaws.{LacksAccepted, validate_fine, adjust_fine}
+
+-- an item of which it is proved where the guest is disciplined: any but a command of the firmware
+abbrev pub IsNoCommand : Role → Item → Type 0
+IsNoCommand Firmware (items.Firmware command) = ⊥
+IsNoCommand role item = Unit {0}
+
+pub proved_no_command : (role : Role) (item : Item) → IsProved role item → IsNoCommand role item
+proved_no_command Firmware (items.Firmware command) known = known
+proved_no_command role item known = tt
+
+-- such an item is a PVALIDATE or an RMPADJUST of a guest's processor, or one of which it is proved for any guest
+by_item : (P : Role → Item → Type 0)
+    → ((owner vmpl npt : ℕ) (paging : Paging) (address : ℕ) (size : PageSize) (validate : Bool) → P (Cpu owner vmpl npt paging) (items.Pvalidate address size validate))
+    → ((owner vmpl npt : ℕ) (paging : Paging) (address : ℕ) (size : PageSize) (target mask : ℕ) (vmsa : Bool) → P (Cpu owner vmpl npt paging) (items.Rmpadjust address size target mask vmsa))
+    → ((role : Role) (item : Item) → IsProved role item → P role item)
+    → (role : Role) (item : Item) → IsNoCommand role item → P role item
+by_item P validates adjusts others (Cpu owner vmpl npt paging) (items.Pvalidate address size validate) known = validates owner vmpl npt paging address size validate
+by_item P validates adjusts others (Cpu owner vmpl npt paging) (items.Rmpadjust address size target mask vmsa) known = adjusts owner vmpl npt paging address size target mask vmsa
+by_item P validates adjusts others role item known = others role item known
+
+-- what an item's event does to a guest's pages and memory
+abbrev ItemFine : ℕ → ℕ → Archive → List GuestSpec → Memory → ℕ → View → ActorPart → Role → Item → Type 0
+ItemFine guest asid archive guests memory frames view part role item =
+    Before guest asid archive memory view.contents → RoleOwns guest asid guests role → AreLargeWhole view.contents.pages
+    → AreItemLocks frames guests view.contents role item part.deeds part.standing → IsAttempt frames role item part.standing part.deeds
+    → LacksAccepted memory (use_for guest (item_move frames guests view part role item).contents role (item_move frames guests view part role item).deed item (item_move frames guests view part role item).outcome)
+    → MoveFine guest asid archive memory view.contents role item (item_move frames guests view part role item)
+
+validate_item : (guest asid : ℕ) (archive : Archive) (guests : List GuestSpec) (memory : Memory) (frames : ℕ) (view : View) (part : ActorPart) (owner vmpl npt : ℕ) (paging : Paging) (address : ℕ) (size : PageSize) (validate : Bool)
+    → ItemFine guest asid archive guests memory frames view part (Cpu owner vmpl npt paging) (items.Pvalidate address size validate)
+unfolding AreItemLocks IsAttempt item_move
+validate_item guest asid archive guests memory frames view part owner vmpl npt paging address size validate before owns whole tested walking lacks =
+    validate_fine guest asid archive guests memory frames view part (record { guest = owner; vmpl = vmpl; npt = npt; paging = paging }) address size validate before owns whole tested.lock walking lacks
+
+adjust_item : (guest asid : ℕ) (archive : Archive) (guests : List GuestSpec) (memory : Memory) (frames : ℕ) (view : View) (part : ActorPart) (owner vmpl npt : ℕ) (paging : Paging) (address : ℕ) (size : PageSize) (target mask : ℕ) (vmsa : Bool)
+    → ItemFine guest asid archive guests memory frames view part (Cpu owner vmpl npt paging) (items.Rmpadjust address size target mask vmsa)
+unfolding item_move
+adjust_item guest asid archive guests memory frames view part owner vmpl npt paging address size target mask vmsa before owns whole tested walking lacks =
+    adjust_fine guest asid archive guests memory frames view part (record { guest = owner; vmpl = vmpl; npt = npt; paging = paging }) address size target mask vmsa before owns
+
+pub processor_item_fine : (guest asid : ℕ) (archive : Archive) (guests : List GuestSpec) (memory : Memory) (frames : ℕ) (view : View) (part : ActorPart) (role : Role) (item : Item) → IsNoCommand role item
+    → ItemFine guest asid archive guests memory frames view part role item
+processor_item_fine guest asid archive guests memory frames view part =
+    by_item (ItemFine guest asid archive guests memory frames view part)
+    (validate_item guest asid archive guests memory frames view part)
+    (adjust_item guest asid archive guests memory frames view part)
+    (λ role item known before owns whole tested walking lacks. item_fine guest asid archive guests memory frames view part role item before owns known whole tested)
+
+-- and to pages of 2 MB
+abbrev ItemLarge : State → ActorPart → Role → Item → Type 0
+ItemLarge m part role item =
+    AreItemLocks m.frames m.guests m.contents role item part.deeds part.standing → MoveLocks m part role item (item_move m.frames m.guests (view_of m) part role item) → AreLargeWhole m.contents.pages
+    → LeavesLarge (item_move m.frames m.guests (view_of m) part role item)
+
+validate_item_large : (m : State) (part : ActorPart) (owner vmpl npt : ℕ) (paging : Paging) (address : ℕ) (size : PageSize) (validate : Bool) → ItemLarge m part (Cpu owner vmpl npt paging) (items.Pvalidate address size validate)
+unfolding AreItemLocks item_move
+validate_item_large m part owner vmpl npt paging address size validate tested locks whole =
+    validate_large m.frames m.guests (view_of m) part (record { guest = owner; vmpl = vmpl; npt = npt; paging = paging }) address size validate tested.lock whole
+
+adjust_item_large : (m : State) (part : ActorPart) (owner vmpl npt : ℕ) (paging : Paging) (address : ℕ) (size : PageSize) (target mask : ℕ) (vmsa : Bool) → ItemLarge m part (Cpu owner vmpl npt paging) (items.Rmpadjust address size target mask vmsa)
+unfolding AreItemLocks item_move
+adjust_item_large m part owner vmpl npt paging address size target mask vmsa tested locks whole =
+    adjust_large m.frames m.guests (view_of m) part (record { guest = owner; vmpl = vmpl; npt = npt; paging = paging }) address size target mask vmsa tested.lock whole
+
+pub processor_item_large : (m : State) (part : ActorPart) (role : Role) (item : Item) → IsNoCommand role item → ItemLarge m part role item
+processor_item_large m part =
+    by_item (ItemLarge m part) (validate_item_large m part) (adjust_item_large m part) (λ role item known tested locks whole. item_large m part role item known tested locks whole)
+
+pub processor_step_large : (m : State) (actor : ℕ) → KeepsLocks m → IsWalking m.frames (part_of m actor) → IsNoCommand (part_of m actor).role (line_at (part_of m actor).script (part_of m actor).item).item
+    → AreLargeWhole m.contents.pages → AreLargeWhole (after m actor).contents.pages
+unfolding after
+processor_step_large m actor keeps walking known whole =
+    let part = part_of m actor in
+    (processor_item_large m part part.role (line_at part.script part.item).item known (keeps.tested (actor - 1)) (move_locks m actor keeps walking) whole).large
