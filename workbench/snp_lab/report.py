@@ -109,6 +109,8 @@ def check_outcome(line: Line, outcome: Tuple[str, ...]) -> None:
         line.fail('the outcome `%s` is cut' % ' '.join(outcome))
     if least >= 2 and number_of(outcome[1]) is None:
         line.fail('`%s` of the outcome should be a number' % outcome[1])
+    if name == 'rc' and outcome[2:] and (len(outcome) != 4 or outcome[2] not in ('by', 'cf') or number_of(outcome[3]) is None):
+        line.fail('`%s` should be a status, and may end with `by ACTOR` or `cf 0`' % ' '.join(outcome))
 
 
 def read_event(line: Line, expected: int) -> Event:

@@ -61,6 +61,12 @@ class Item:
     def writes(self) -> bool:
         return self.word in WRITES
 
+    @property
+    def frames(self) -> range:
+        """The frames that an RMPUPDATE or PSMASH is of."""
+        is_large = self.word == 'psmash' or self.operands[1] == 2
+        return range(self.operands[0], self.operands[0] + (512 if is_large else 1))
+
 
 @dataclass
 class Actor:
