@@ -324,7 +324,7 @@ class Explorer:
         if self.nodes or self.options.most <= 0:
             return '%s; %s, %d of them at random: not all were tried' % (about, runs, self.randomly)
         if self.search.reduce:
-            return '%s; %s stand%s for all of them: events that touch no word in common give the same in any order' % (
+            return '%s; %s stand%s for all of them: events that touch nothing in common give the same in any order' % (
                 about, runs, 's' if self.found.runs == 1 else '')
         return '%s by the first run\'s events; all %d were run' % (about, self.found.runs)
 
