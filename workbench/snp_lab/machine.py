@@ -10,7 +10,7 @@ from typing import Any, Dict, List, Optional, Tuple
 
 from .entries import FREE, LARGE, RECLAIM, Entries, Facts, Marks, frames_from, meet
 from .report import Event
-from .scenario import Actor, Item, Scenario
+from .scenario import FRAMES_OF, Actor, Item, Scenario
 from .texts import page_of
 
 ADDRESS_BITS = 0x0000FFFFFFFFF000
@@ -55,7 +55,7 @@ class Watch:
     last_write: Dict[Tuple[int, int], int] = field(default_factory=dict)
     commits: Dict[int, Event] = field(default_factory=dict)
     last_change: Marks = field(default_factory=Marks)
-    last_clear: Marks = field(default_factory=Marks)
+    last_refill: Marks = field(default_factory=Marks)
 
     def __post_init__(self) -> None:
         for guest in self.scenario.guests.values():
@@ -204,6 +204,24 @@ class Watch:
         change = COMMITS.get(item.word)
         if change is not None:
             change(self, event, item, actor)
+        if actor.role == 'fw':
+            self.commits[event.number] = event
+            for place in FRAMES_OF.get(item.word, ()):
+                self.last_refill.put(only(item.operands[place - 1]), event.number)
+
+    def refill_words(self, frame: int, since: int) -> str:
+        """Which commit behind an event changed the words of a whole frame; nothing where none did."""
+        number = self.last_refill.at(frame)
+        if number is None or number < since:
+            return ''
+        event = self.commits[number]
+        what = 'took the frame from its owner, and its words became zero' if self.clears(number) else 'changed the words of this frame'
+        return 'event %d, `%s` of actor %d, %s' % (number, self.item_text(event), event.actor, what)
+
+    def clears(self, number: int) -> bool:
+        """Whether a commit that changed the words of a frame made them zero: RMPUPDATE does."""
+        item = self.item_of(self.commits[number])
+        return item is not None and item.word == 'rmpupdate'
 
 
 def writes(event: Event) -> bool:
@@ -223,7 +241,7 @@ def commit_update(watch: Watch, event: Event, item: Item, actor: Actor) -> None:
     watch.put(item.frames, event, updated_facts(item))
     # a range of 2 MB is assigned as a whole, or none of its frames is
     if old is not None and old.assigned:
-        watch.last_clear.put(item.frames, event.number)
+        watch.last_refill.put(item.frames, event.number)
 
 
 def makes_immutable(item: Item, old: Facts) -> bool:

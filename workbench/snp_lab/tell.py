@@ -248,12 +248,11 @@ class Teller:
             return None
         key = (event.frame, event.place[1])
         written = self.watch.last_write.get(key)
-        cleared = self.watch.last_clear.at(event.frame)
-        if cleared is not None and (written is None or written < cleared):
-            if event.outcome[1] != '0x0':
+        refill = self.watch.refill_words(event.frame, -1 if written is None else written)
+        if refill:
+            if self.watch.clears(self.watch.last_refill.at(event.frame) or 0) and event.outcome[1] != '0x0':
                 told.misfit = 'by the scenario this word should be 0x0: %s' % APART
-            return None, 'event %d, `%s` of actor %d, took the frame from its owner, and its words became zero' % (
-                cleared, self.watch.item_text(self.watch.commits[cleared]), self.watch.commits[cleared].actor)
+            return None, refill
         if written is not None:
             return None, 'event %d wrote this word' % written
         if key in self.scenario.words:

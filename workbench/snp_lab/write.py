@@ -8,7 +8,7 @@ from typing import Callable, Dict, List, Optional, Set, Tuple
 from . import order
 from .entries import LARGE
 from .program import Program
-from .scenario import ACCESSES, OPERANDS
+from .scenario import ACCESSES, FRAMES_OF, OPERANDS
 from .texts import Complaint, Line, hex_of, lines_of, number_of
 
 NAME = re.compile(r'[a-z][a-z0-9_]*\Z')
@@ -21,10 +21,6 @@ KEY = '0' * 64
 UNNUMBERED = {'': -1, '2m': -2}
 KEPT_WORDS = frozenset('''snp regions frame guest page word map root actor order end opened new asid iv key of at valid invalid cpu host
 fw vmpl npt flat gcr3 la57 skip if ok bad value retry read'''.split()) | frozenset(OPERANDS)
-# Which operands of an item, counted from 1, are frames.
-FRAMES_OF = {'rmpupdate': (1,), 'psmash': (1,), 'gctx_create': (2,), 'launch_update': (2,), 'md_init': (1,), 'page_move': (2, 3),
-             'swap_out': (2, 3, 4), 'swap_in': (2, 3, 4), 'page_reclaim': (1,), 'md_out': (2, 3, 4), 'md_in': (2, 3, 4),
-             'md_root_out': (2, 3), 'md_root_in': (2, 3)}
 
 
 @dataclass
