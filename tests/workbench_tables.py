@@ -73,6 +73,7 @@ EXPLAINED = [
     ('page_taken_under_a_walk', ['frame 8 is nobody\'s, and the access is of guest 1; event 6, `rmpupdate 8 4k 0 0 0 0` of actor 2, changed']),
     ('large_page_split_under_a_guest', ['a page of 4 KB, and the nested leaf is of 2 MB; event 6, `psmash 512` of actor 2, changed the entry']),
     ('race_for_one_entry', ['RMPUPDATE, row 2 "a frame of the range is locked"',
+                            'actor 1 holds it; the item is attempted again, retry 1 of 1\n',
                             'actor 1 holds the lock of frame 9, which event 0 took for `rmpupdate 9 4k 1 1 3 0`',
                             'actor 2 holds the lock of frame 9, which event 3 took for `rmpupdate 9 4k 1 1 4 0 retry 1`']),
     ('updates_and_their_refusals', [
@@ -86,7 +87,8 @@ EXPLAINED = [
         'PSMASH, row 3 "F is in no 2 MB page"', 'PSMASH, row 4 "F is immutable"']),
     ('large_page_split_and_freed', ['frame 512 is page 0x400 of guest 1, in a page of 4 KB; event 1, `psmash 512` of actor 1, changed the entry',
                                     'frames 512 to 1023 are no page of 2 MB, and frame 512 is page 0x400 of guest 1; event 1']),
-    ('locks_of_ranges', ['actor 1 holds the lock of frame 515', 'attempt 2\n', 'actor 3 holds the lock of frame 516']),
+    ('locks_of_ranges', ['actor 1 holds the lock of frame 515', 'attempt 2\n', 'actor 1 holds it; no retry is left, and the actor goes on',
+                         'actor 3 holds the lock of frame 516']),
     ('lock_of_a_large_page', ['asks for the lock of frame 600; frame 600 is page 0x258 of guest 1, in a page of 2 MB',
                               'actor 1 holds the lock of frame 600, which event 0 took for `psmash 512`', 'PSMASH, row 2 "F\'s page is locked"']),
     ('smallest', ['no event of this report is a fault or a refusal']),

@@ -111,8 +111,8 @@ def pair(names: List[str], program: Optional[str]) -> 'Tuple[Scenario, Report]':
 
 # brief
 
-BRIEF = """Prints the lines of a report that have an outcome: those of accesses (`data`, `host`), of faults and of skips. Begins and
-reads of tables that went on are left out.
+BRIEF = """Prints the lines of a report that have an outcome: those of accesses (`data`, `host`), of commits, of faults and
+refusals, and of skips. Begins, reads of tables that went on and locks that were taken are left out.
 """
 
 

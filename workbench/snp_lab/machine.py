@@ -135,6 +135,7 @@ class Watch:
             return known
         made = Attempt()
         self.attempts[event.actor] = made
+        self.release(event.actor)
         actor, item = self.actor_of(event), self.item_of(event)
         if actor is None or actor.role != 'cpu' or item is None or item.word == 'skip':
             return made
@@ -162,8 +163,12 @@ class Watch:
                 self.commit(event)
             if event.kind in ('data', 'host') and writes(event):
                 self.last_write[event.frame, event.place[1]] = event.number
-            self.locks = [lock for lock in self.locks if lock.actor != event.actor]
+            self.release(event.actor)
             self.attempts.pop(event.actor, None)
+
+    def release(self, actor: int) -> None:
+        if self.locks:
+            self.locks = [lock for lock in self.locks if lock.actor != actor]
 
     def take_lock(self, event: Event) -> None:
         item = self.item_of(event)

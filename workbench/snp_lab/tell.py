@@ -88,7 +88,7 @@ class Teller:
         attempt = self.watch.open_attempt(event)
         DEED_WORDS[event.kind](self, told, attempt, actor, item)
         if event.outcome:
-            told.outcome = codes.outcome_words(event.outcome, event.kind)
+            told.outcome = codes.outcome_words(event.outcome, event.kind) + retry_words(event, item)
             self.decide(told, attempt, actor, item)
         if item.word in updates.INSTRUCTIONS:
             self.decide_update(told, attempt, item)
@@ -355,6 +355,15 @@ class Teller:
             bound = 'bound' if self.watch.bound.get(guest) else 'not bound'
             return None, 'guest %d is %s, and %s' % (guest, self.watch.states.get(guest, '?'), bound)
         return None
+
+
+def retry_words(event: Event, item: Item) -> str:
+    """Whether an item that found something in use is attempted again; nothing where its line has no retries."""
+    if 'by' not in event.outcome or not item.retries:
+        return ''
+    if event.attempt < item.retries:
+        return '; the item is attempted again, retry %d of %d' % (event.attempt + 1, item.retries)
+    return '; no retry is left, and the actor goes on'
 
 
 def receiver(event: Event) -> str:
