@@ -162,6 +162,7 @@ REFUSED = [
     (['explain', '-', 'tests/cases/smallest.out'], BASE + 'order 1*x\nend\n',
      'standard input:12: `1*x` is neither an actor nor an actor with its count'),
     (['brief', '-'], 'snp-report 1\n0 1 0.0 lock 9 rc 3 by\n', 'standard input:2: `rc 3 by` should be a status'),
+    (['brief', '-'], 'snp-report 1\n0 1 0.0 lock 0x9\n', 'standard input:2: `0x9` should be a frame or a guest'),
     (['brief', '-'], 'snp-report 1\n0 1 0.0 commit 9 0x3 8k rc 0\n', 'standard input:2: `0x3 8k` should be a page and its size'),
     (['explain', 'rc 3 by'], '', '`by` is no code'),
     (['brief', '-'], 'snp-report 1\n0 1 0.0 begin\r\n', 'standard input:2: this line has a carriage return'),
