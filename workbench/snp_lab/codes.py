@@ -43,6 +43,11 @@ HOST = [Row('Verdicts', 'an access of the hypervisor', k + 1, 'assigned') for k 
 CANONICAL = Row('A guest processor\'s access', 'the begin of an access', None, 'Where the address isn\'t canonical')
 OFFLINE = Row('A guest processor\'s access', 'the begin of an access', None, 'Where the guest isn\'t running')
 
+# What RMPUPDATE tests before it looks at any entry: all of row 1.
+BAD_UPDATE = [Row('RMPUPDATE and PSMASH', 'RMPUPDATE', 1, condition) for condition in (
+    'F isn\'t in memory', '2 MB, and F is no multiple of 512',
+    '2 MB, assigned, and the gpn is no multiple of 512 or the ASID is 0',
+    'not assigned, and the ASID or the gpn isn\'t 0, or immutable', 'assigned, the ASID is 0, and the gpn isn\'t 0')]
 UPDATE = rows('RMPUPDATE and PSMASH', 'RMPUPDATE', 'F isn\'t in memory', 'a frame of the range is locked',
               '4 KB, and F is in a 2 MB page; 2 MB, the range is no 2 MB page, and a frame of it is assigned',
               'a frame of the range is immutable')
@@ -58,7 +63,12 @@ BEGIN = {key: Row('PVALIDATE and RMPADJUST', 'the begin of PVALIDATE or RMPADJUS
     'mask': 'the target VMPL is above 3, or the mask above 15', 'target': 'the target isn\'t greater than the VMPL'}.items()}
 
 CITED = ([NESTED_NOT_PRESENT, NESTED_USER, NESTED_WRITE, GUEST_NOT_PRESENT, GUEST_WRITE, CANONICAL, OFFLINE] + PRIVATE + SHARED
-         + HOST + UPDATE + SMASH + VALIDATE + list(BEGIN.values()))
+         + HOST + BAD_UPDATE + UPDATE + SMASH + VALIDATE + list(BEGIN.values()))
+
+# The rows of RMPUPDATE and PSMASH, and of the instructions of guests, by the status that they give.
+STATUS_ROWS = {1: BAD_UPDATE + [SMASH[0], SMASH[2], BEGIN['align'], BEGIN['mask'], VALIDATE[0]],
+               2: [UPDATE[3], SMASH[3], BEGIN['target'], VALIDATE[6], VALIDATE[7]],
+               3: [UPDATE[1], SMASH[1], VALIDATE[1]], 4: [UPDATE[2]], 6: [VALIDATE[4]]}
 
 
 @dataclass(frozen=True)
@@ -234,6 +244,8 @@ def nested_causes(code: int) -> List[str]:
 
 def decided(causes: List[str]) -> List[str]:
     """The lines that name what decided, or what may have."""
+    if not causes:
+        return []
     if len(causes) == 1:
         return ['  decided by: ' + causes[0]]
     return ['  decided by: one of these'] + ['    ' + cause for cause in causes]
@@ -282,7 +294,7 @@ def coded(kind: str, code: int) -> List[str]:
         row = GUEST_WRITE if code & 1 else GUEST_NOT_PRESENT
         return ['pf 0x%x behind `gpt`: %s' % (code, guest_fault_words(code)), '  goes to: ' + GUEST, '  decided by: ' + str(row)]
     if kind == 'rc':
-        return ['rc %d: %s' % (code, status_words(code))]
+        return ['rc %d: %s' % (code, status_words(code))] + decided([str(row) for row in STATUS_ROWS.get(code, [])])
     if kind == 'fw':
         return ['fw 0x%x: %s' % (code, firmware_words(code))]
     if kind == 'status':
@@ -299,14 +311,17 @@ def code_lines(words: List[str]) -> List[str]:
     kind: Optional[str] = None
     for word in words:
         value = number_of(word.lower())
-        if value is None and (kind is not None or word in ('by', 'cf')):
+        if value is None and (kind is not None or word == 'cf'):
             raise Complaint('`%s` should be a number, as 0x580000005' % word)
         if value is None:
             kind = word
             if kind in ('gp', 'offline', 'opaque'):
                 lines, kind = lines + ['%s: %s' % (word, outcome_words((word,), 'data'))], None
             continue
-        lines += coded(kind, value) if kind else [text for _, reading in kinds_of(value) for text in reading]
+        if kind == 'by':
+            lines.append('  held by: actor %d, in the order of the scenario\'s `actor` lines' % value)
+        else:
+            lines += coded(kind, value) if kind else [text for _, reading in kinds_of(value) for text in reading]
         kind = None
     if kind is not None:
         raise Complaint('`%s` is no code; give a number, or a kind and a number, as `rc 3`' % kind)

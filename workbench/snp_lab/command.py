@@ -111,8 +111,8 @@ def pair(names: List[str], program: Optional[str]) -> 'Tuple[Scenario, Report]':
 
 # brief
 
-BRIEF = """Prints the lines of a report that have an outcome: those of accesses (`data`, `host`), of faults and of skips. Begins and
-reads of tables that went on are left out.
+BRIEF = """Prints the lines of a report that have an outcome: those of accesses (`data`, `host`), of commits, of faults and
+refusals, and of skips. Begins, reads of tables that went on and locks that were taken are left out.
 """
 
 
@@ -164,14 +164,20 @@ WRITE = """Makes a plain scenario of a short one, which stands in the comments o
 
     map 1 root 1: 0x0..0x7 -> 64..71      nested tables of guest 1 from frame 1 on; the tables between take frames that no
                                           line names; `read-only` may end the line
+    map 1 root 1: 0x200 -> big 2m         one entry for the 512 pages from this one on
     frame decoy 9                         names frame 9; without a number, a frame that no other line names
+    frame big 2m                          names the first of 512 such frames, for a page of 2 MB
     guest 1 opened asid 1                 counter 0 and a key of zeros
     page 64..71 of 1 at 0x0               `4k valid 0 0 0`, for each of the frames
+    page big of 1 at 0x200 2m             `valid 0 0 0`, a page of 2 MB
     store leaf(1,0x0) entry(decoy)        leaf(ROOT,PAGE): address of the entry that maps a page; entry(FRAME): an entry that
-                                          leads there; addr(FRAME,INDEX): a word's address; private(PAGE), shared(PAGE):
-                                          entries of a guest's own tables
-    order 1! 1@data 2*3! 1!!              one item of actor 1; up to its next access; three items of actor 2; to the end of
-                                          actor 1's script; and `1`, `1*6` as in plain scenarios
+                                          leads there; large(FRAME): one of 2 MB; addr(FRAME,INDEX): a word's address;
+                                          private(PAGE), shared(PAGE): entries of a guest's own tables
+    rmpupdate decoy of 1 at 0x3           the hypervisor gives the frame to guest 1; `2m`, `immutable` and `retry N` may follow
+    rmpupdate big free 2m                 it takes the page of 2 MB back; without `2m`, the frame
+    psmash big                            as in plain scenarios
+    order 1! 1@data 2*3! 1!!              one item of actor 1; up to its next access, `2@commit` to a commit; three items of
+                                          actor 2; to the end of actor 1's script; and `1`, `1*6` as in plain scenarios
 
 Lines may come in any order. `snp`, `regions` and `end` may be left out. Where the order is by items, `snp` is asked.
 """
@@ -200,7 +206,7 @@ item can have, with one schedule for each. The scenario's own `order` lines are 
     snp-lab explore --joint SCENARIO                                 also the outcomes of whole runs
     snp-lab explore --until '* 1 1.0 data ... npf *' SCENARIO        a schedule whose report has a line like it
 
-Events that touch no word of memory in common give the same outcomes in any order, so of interleavings that differ by such
+Events that touch no word, RMP entry or lock in common give the same outcomes in any order, so of interleavings that differ by such
 events alone one is run; --full runs each. Ctrl-C ends a search with what was found. With --until the exit status is 1 where
 no run has such a line. Patterns are those of `test`; one that begins with `*` or `...` leaves the event's number open, and
 any other one makes the search full.

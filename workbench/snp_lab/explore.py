@@ -78,13 +78,15 @@ class Found:
 
 
 def outcomes_of(search: Search, played: Played) -> Dict[Key, str]:
-    """The outcome of each item of a run; of an item that was attempted again, all of them."""
+    """The outcome of each item of a run; of one that was attempted again all of them, equal ones in a row told once."""
     outcomes: Dict[Key, str] = {(actor.number, k): PASSED_OVER for actor in search.scenario.actors.values()
                                 for k in range(len(actor.items))}
     for event in played.events:
         key = event.actor, event.item
-        if event.outcome:
-            outcomes[key] = event.answer if event.attempt == 0 else outcomes[key] + ', then ' + event.answer
+        if event.outcome and event.attempt == 0:
+            outcomes[key] = event.answer
+        elif event.outcome and outcomes[key].split(', then ')[-1] != event.answer:
+            outcomes[key] += ', then ' + event.answer
     return outcomes
 
 
@@ -221,8 +223,10 @@ class Explorer:
     def run(self) -> None:
         """The whole search; Ctrl-C ends it with what was found."""
         def stop(*_: object) -> None:
+            self.stopped = 'stopped by its user'  # also where the exception is lost, as in a callback
             raise KeyboardInterrupt
-        old = signal.signal(signal.SIGTERM, stop)
+        caught = [one for one in (signal.SIGINT, signal.SIGTERM) if signal.getsignal(one) != signal.SIG_IGN]
+        old = [(one, signal.signal(one, stop)) for one in caught]
         progress, start = Progress(), time.monotonic()
         pool: Optional[ProcessPoolExecutor] = None
         try:
@@ -235,7 +239,8 @@ class Explorer:
         except KeyboardInterrupt:
             self.stopped = 'stopped by its user'
         finally:
-            signal.signal(signal.SIGTERM, old)
+            for one, before in old:
+                signal.signal(one, before)
             progress.clear()
             if pool is not None:
                 pool.shutdown(wait=False, cancel_futures=True)
@@ -324,7 +329,7 @@ class Explorer:
         if self.nodes or self.options.most <= 0:
             return '%s; %s, %d of them at random: not all were tried' % (about, runs, self.randomly)
         if self.search.reduce:
-            return '%s; %s stand%s for all of them: events that touch no word in common give the same in any order' % (
+            return '%s; %s stand%s for all of them: events that touch nothing in common give the same in any order' % (
                 about, runs, 's' if self.found.runs == 1 else '')
         return '%s by the first run\'s events; all %d were run' % (about, self.found.runs)
 

@@ -1,4 +1,4 @@
-"""What scenario and report together say of the machine at each event: the RMP entries, the guests, the open attempts.
+"""What scenario and report together say of the machine at each event: the RMP entries, the locks, the guests, the open attempts.
 
 This follows the report and computes no run: words of memory are those that the report shows. A fact that the two don't
 determine is None.
@@ -8,49 +8,25 @@ from __future__ import annotations
 from dataclasses import dataclass, field, replace
 from typing import Any, Dict, List, Optional, Tuple
 
+from .entries import FREE, LARGE, RECLAIM, Entries, Facts, Marks, frames_from, meet
 from .report import Event
-from .scenario import Actor, Item, Scenario
+from .scenario import FRAMES_OF, Actor, Item, Scenario
 from .texts import page_of
 
-LARGE = 512
 ADDRESS_BITS = 0x0000FFFFFFFFF000
-
-
-@dataclass(frozen=True)
-class Facts:
-    """The entry of a frame in the RMP."""
-    assigned: bool = False
-    is_large: bool = False
-    immutable: bool = False
-    gpn: int = 0
-    asid: int = 0
-    vmsa: bool = False
-    validated: bool = False
-    permissions: Tuple[int, int, int, int] = (0, 0, 0, 0)
-    kind: str = 'Plain'
-
-    @property
-    def state(self) -> str:
-        """The state of the page, by docs/MODEL.md, "Page states"."""
-        if not self.assigned:
-            return 'Hypervisor'
-        if self.asid == 0:
-            if not self.immutable:
-                return 'Reclaim'
-            return 'Firmware' if self.kind == 'Plain' else self.kind
-        if self.immutable:
-            return 'Pre-Swap' if self.validated else 'Pre-Guest'
-        return 'Guest-Valid' if self.validated else 'Guest-Invalid'
-
-
-FREE = Facts()
-RECLAIM = Facts(assigned=True)
-FIRMWARE = Facts(assigned=True, immutable=True, kind='Firmware')
 
 
 def entry_frame(word: int) -> int:
     """The frame or guest page that an entry of a table names."""
     return (word & ADDRESS_BITS) >> 12
+
+
+@dataclass(frozen=True)
+class Lock:
+    """A lock that an open attempt has taken: its holder, the frames that it covers, and the event that took it."""
+    actor: int
+    frames: range
+    event: Event
 
 
 @dataclass
@@ -70,12 +46,16 @@ class Attempt:
 class Watch:
     """The machine as far as scenario and report tell it, up to the events that were taken so far."""
     scenario: Scenario
-    facts: Dict[int, Optional[Facts]] = field(default_factory=dict)
+    rmp: Entries = field(default_factory=Entries)
+    locks: List[Lock] = field(default_factory=list)
     states: Dict[int, str] = field(default_factory=dict)
     bound: Dict[int, bool] = field(default_factory=dict)
     attempts: Dict[int, Attempt] = field(default_factory=dict)
     entries: Dict[Tuple[int, int], Optional[Facts]] = field(default_factory=dict)
     last_write: Dict[Tuple[int, int], int] = field(default_factory=dict)
+    commits: Dict[int, Event] = field(default_factory=dict)
+    last_change: Marks = field(default_factory=Marks)
+    last_refill: Marks = field(default_factory=Marks)
 
     def __post_init__(self) -> None:
         for guest in self.scenario.guests.values():
@@ -83,12 +63,11 @@ class Watch:
             self.bound[guest.number] = guest.is_opened
         for page in self.scenario.pages:
             asid = self.scenario.guests[page.guest].asid
-            for k in range(LARGE if page.is_large else 1):
-                self.facts[page.frame + k] = Facts(True, page.is_large, False, page.gpn + k, asid, False, page.is_valid,
-                                                   page.permissions)
+            facts = Facts(True, page.is_large, False, page.gpn, asid, False, page.is_valid, page.permissions)
+            self.rmp.put(frames_from(page.frame, page.is_large), facts)
 
     def facts_of(self, frame: int) -> Optional[Facts]:
-        return self.facts.get(frame, FREE)
+        return self.rmp.at(frame)
 
     def actor_of(self, event: Event) -> Optional[Actor]:
         return self.scenario.actors.get(event.actor)
@@ -97,13 +76,37 @@ class Watch:
         actor = self.actor_of(event)
         return actor.items[event.item] if actor is not None and event.item < len(actor.items) else None
 
-    def page_frames(self, frame: int) -> List[int]:
+    def page_frames(self, frame: int) -> range:
         """The frames of the page in which a frame stands."""
         facts = self.facts_of(frame)
-        if facts is None or not facts.is_large:
-            return [frame]
-        head = frame - frame % LARGE
-        return list(range(head, head + LARGE))
+        is_large = facts is not None and facts.is_large
+        return frames_from(frame - frame % LARGE if is_large else frame, is_large)
+
+    def lock_frames(self, item: Item, frame: int) -> range:
+        """The frames that a lock covers: the range of RMPUPDATE, and else the page in which the frame stands."""
+        return item.frames if item.word == 'rmpupdate' else self.page_frames(frame)
+
+    def holder(self, frames: range) -> Optional[Tuple[int, Lock]]:
+        """The lowest locked frame of a range, with its lock."""
+        held = [(max(lock.frames.start, frames.start), lock) for lock in self.locks if meet(lock.frames, frames)]
+        return min(held, key=lambda one: one[0], default=None)
+
+    def holder_words(self, frame: int, lock: Lock) -> str:
+        """Who holds a lock, and since when."""
+        return 'actor %d holds the lock of frame %d, which event %d took for `%s`' % (
+            lock.actor, frame, lock.event.number, self.item_text(lock.event))
+
+    def change_words(self, frame: int) -> str:
+        """Who changed the entry of a frame last; nothing where it is that of the opening."""
+        number = self.last_change.at(frame)
+        if number is None:
+            return ''
+        event = self.commits[number]
+        return '; event %d, `%s` of actor %d, changed the entry last' % (number, self.item_text(event), event.actor)
+
+    def item_text(self, event: Event) -> str:
+        item = self.item_of(event)
+        return item.text if item is not None else '?'
 
     def guest_name(self, asid: int) -> str:
         """Whose an ASID is, in words."""
@@ -132,6 +135,7 @@ class Watch:
             return known
         made = Attempt()
         self.attempts[event.actor] = made
+        self.release(event.actor)
         actor, item = self.actor_of(event), self.item_of(event)
         if actor is None or actor.role != 'cpu' or item is None or item.word == 'skip':
             return made
@@ -152,12 +156,24 @@ class Watch:
             attempt.level -= 1
         elif event.kind == 'gpt' and not event.outcome and event.deed[3] != '-':
             self.take_table(event, attempt)
+        elif event.kind == 'lock' and not event.outcome:
+            self.take_lock(event)
         if event.outcome:
             if event.kind in ('commit', 'commitg') and event.is_good:
                 self.commit(event)
             if event.kind in ('data', 'host') and writes(event):
                 self.last_write[event.frame, event.place[1]] = event.number
+            self.release(event.actor)
             self.attempts.pop(event.actor, None)
+
+    def release(self, actor: int) -> None:
+        if self.locks:
+            self.locks = [lock for lock in self.locks if lock.actor != actor]
+
+    def take_lock(self, event: Event) -> None:
+        item = self.item_of(event)
+        if item is not None:
+            self.locks.append(Lock(event.actor, self.lock_frames(item, int(event.deed[1])), event))
 
     def take_table(self, event: Event, attempt: Attempt) -> None:
         """The guest walk behind a table's word that let it go on."""
@@ -173,10 +189,17 @@ class Watch:
                 below = below - below % LARGE + (item.operands[0] >> 12) % LARGE
         attempt.gpn, attempt.level, attempt.leaf_is_large = below, 4, False
 
-    def change(self, frames: List[int], **fields: Any) -> None:
-        for frame in frames:
-            facts = self.facts_of(frame)
-            self.facts[frame] = None if facts is None else replace(facts, **fields)
+    def change(self, frames: range, event: Event, **fields: Any) -> None:
+        self.rmp.change(frames, **fields)
+        self.note_change(frames, event)
+
+    def put(self, frames: range, event: Event, facts: Optional[Facts]) -> None:
+        self.rmp.put(frames, facts)
+        self.note_change(frames, event)
+
+    def note_change(self, frames: range, event: Event) -> None:
+        self.commits[event.number] = event
+        self.last_change.put(frames, event.number)
 
     def commit(self, event: Event) -> None:
         """What a commit changes of entries and guests, by the tables of docs/MODEL.md."""
@@ -186,6 +209,24 @@ class Watch:
         change = COMMITS.get(item.word)
         if change is not None:
             change(self, event, item, actor)
+        if actor.role == 'fw':
+            self.commits[event.number] = event
+            for place in FRAMES_OF.get(item.word, ()):
+                self.last_refill.put(only(item.operands[place - 1]), event.number)
+
+    def refill_words(self, frame: int, since: int) -> str:
+        """Which commit behind an event changed the words of a whole frame; nothing where none did."""
+        number = self.last_refill.at(frame)
+        if number is None or number < since:
+            return ''
+        event = self.commits[number]
+        what = 'took the frame from its owner, and its words became zero' if self.clears(number) else 'changed the words of this frame'
+        return 'event %d, `%s` of actor %d, %s' % (number, self.item_text(event), event.actor, what)
+
+    def clears(self, number: int) -> bool:
+        """Whether a commit that changed the words of a frame made them zero: RMPUPDATE does."""
+        item = self.item_of(self.commits[number])
+        return item is not None and item.word == 'rmpupdate'
 
 
 def writes(event: Event) -> bool:
@@ -193,39 +234,55 @@ def writes(event: Event) -> bool:
     return event.outcome[:1] in (('store',), ('swap',)) or event.outcome[:1] == ('cas',) and event.outcome[2:] == ('yes',)
 
 
+def only(frame: int) -> range:
+    return range(frame, frame + 1)
+
+
 def commit_update(watch: Watch, event: Event, item: Item, actor: Actor) -> None:
-    frame, size, assigned, asid, gpn, immutable = item.operands
-    frames = list(range(frame, frame + (LARGE if size == 2 else 1)))
-    old = watch.facts_of(frame)
-    same = (old is not None and old.assigned and assigned and old.asid == asid and old.gpn == gpn
-            and old.is_large == (size == 2) and not old.immutable and immutable)
-    if same:
-        watch.change(frames, immutable=True, **({'kind': 'Firmware'} if asid == 0 else {}))
+    old = watch.facts_of(item.operands[0])
+    if old is not None and makes_immutable(item, old):
+        watch.change(item.frames, event, immutable=True, **({'kind': 'Firmware'} if item.operands[3] == 0 else {}))
         return
-    for k, one in enumerate(frames):
-        watch.facts[one] = FREE if not assigned else Facts(
-            True, size == 2, bool(immutable), gpn + k if asid else 0, asid, False, False,
-            (15, 0, 0, 0) if asid else (0, 0, 0, 0), 'Firmware' if asid == 0 and immutable else 'Plain')
+    watch.put(item.frames, event, updated_facts(item))
+    # a range of 2 MB is assigned as a whole, or none of its frames is
+    if old is not None and old.assigned:
+        watch.last_refill.put(item.frames, event.number)
+
+
+def makes_immutable(item: Item, old: Facts) -> bool:
+    """Whether an RMPUPDATE finds its page as it asks for it, and makes it immutable alone."""
+    _, size, assigned, asid, gpn, immutable = item.operands
+    return bool(old.assigned and assigned and old.asid == asid and old.gpn == gpn and old.is_large == (size == 2)
+                and not old.immutable and immutable)
+
+
+def updated_facts(item: Item) -> Facts:
+    """The facts of the first frame behind an RMPUPDATE that doesn't find its page as it asks for it."""
+    _, size, assigned, asid, gpn, immutable = item.operands
+    if not assigned:
+        return FREE
+    return Facts(True, size == 2, bool(immutable), gpn, asid, False, False, (15, 0, 0, 0) if asid else (0, 0, 0, 0),
+                 'Firmware' if asid == 0 and immutable else 'Plain')
 
 
 def commit_smash(watch: Watch, event: Event, item: Item, actor: Actor) -> None:
-    watch.change(list(range(item.operands[0], item.operands[0] + LARGE)), is_large=False)
+    watch.change(item.frames, event, is_large=False)
 
 
 def commit_validate(watch: Watch, event: Event, item: Item, actor: Actor) -> None:
     if event.outcome[2:] == ('cf', '0'):
-        watch.change(watch.page_frames(event_frame(event)), validated=bool(item.operands[2]))
+        watch.change(watch.page_frames(event_frame(event)), event, validated=bool(item.operands[2]))
 
 
 def commit_adjust(watch: Watch, event: Event, item: Item, actor: Actor) -> None:
     _, _, target, mask, vmsa = item.operands
-    for frame in watch.page_frames(event_frame(event)):
-        facts = watch.facts_of(frame)
-        if facts is None:
-            continue
-        permissions = list(facts.permissions)
-        permissions[target] = mask
-        watch.change([frame], permissions=tuple(permissions), **({'vmsa': bool(vmsa)} if actor.vmpl == 0 else {}))
+    facts = watch.facts_of(event_frame(event))
+    if facts is None:
+        return
+    permissions = list(facts.permissions)
+    permissions[target] = mask
+    watch.change(watch.page_frames(event_frame(event)), event, permissions=tuple(permissions),
+                 **({'vmsa': bool(vmsa)} if actor.vmpl == 0 else {}))
 
 
 def event_frame(event: Event) -> int:
@@ -233,7 +290,7 @@ def event_frame(event: Event) -> int:
 
 
 def commit_launch(watch: Watch, event: Event, item: Item, actor: Actor) -> None:
-    watch.change([item.operands[1]], immutable=False, validated=True, permissions=(15,) + item.operands[4:7])
+    watch.change(only(item.operands[1]), event, immutable=False, validated=True, permissions=(15,) + item.operands[4:7])
 
 
 def commit_context(watch: Watch, event: Event, item: Item, actor: Actor) -> None:
@@ -242,7 +299,7 @@ def commit_context(watch: Watch, event: Event, item: Item, actor: Actor) -> None
     if state is not None:
         watch.states[guest] = state
     if item.word == 'gctx_create':
-        watch.change([item.operands[1]], kind='Context')
+        watch.change(only(item.operands[1]), event, kind='Context')
     if item.word == 'activate':
         watch.bound[guest] = True
 
@@ -251,21 +308,21 @@ def commit_metadata(watch: Watch, event: Event, item: Item, actor: Actor) -> Non
     """A page becomes a metadata page, or an empty one of the firmware."""
     frame = item.operands[0] if item.word == 'md_init' else item.operands[2 if item.word.endswith('in') else 1]
     out = item.word.endswith('out')
-    watch.change([frame], kind='Firmware' if out else 'Metadata')
+    watch.change(only(frame), event, kind='Firmware' if out else 'Metadata')
     for entry in [entry for entry in watch.entries if entry[0] == frame]:
         del watch.entries[entry]
 
 
 def commit_move(watch: Watch, event: Event, item: Item, actor: Actor) -> None:
     _, source, target = item.operands
-    watch.facts[target] = watch.facts_of(source)
-    watch.change([source], vmsa=False, validated=False, immutable=True, permissions=(15, 0, 0, 0))
+    watch.put(only(target), event, watch.facts_of(source))
+    watch.change(only(source), event, vmsa=False, validated=False, immutable=True, permissions=(15, 0, 0, 0))
 
 
 def commit_swap_out(watch: Watch, event: Event, item: Item, actor: Actor) -> None:
     _, source, _, page, entry = item.operands
     watch.entries[page, entry] = watch.facts_of(source)
-    watch.facts[source] = RECLAIM
+    watch.put(only(source), event, RECLAIM)
 
 
 def commit_swap_in(watch: Watch, event: Event, item: Item, actor: Actor) -> None:
@@ -273,21 +330,20 @@ def commit_swap_in(watch: Watch, event: Event, item: Item, actor: Actor) -> None
     kept = watch.entries.pop((page, entry), None)
     old = watch.facts_of(target)
     if kept is None or old is None:
-        watch.facts[target] = None
+        watch.put(only(target), event, None)
         return
-    watch.facts[target] = replace(old, gpn=kept.gpn, validated=kept.validated, vmsa=kept.vmsa, permissions=kept.permissions)
+    watch.put(only(target), event, replace(old, gpn=kept.gpn, validated=kept.validated, vmsa=kept.vmsa, permissions=kept.permissions))
 
 
 def commit_reclaim(watch: Watch, event: Event, item: Item, actor: Actor) -> None:
-    frame = item.operands[0]
-    facts = watch.facts_of(frame)
+    frames = watch.page_frames(item.operands[0])
+    facts = watch.facts_of(item.operands[0])
     if facts is None:
         return
     if facts.asid == 0:
-        for one in watch.page_frames(frame):
-            watch.facts[one] = replace(RECLAIM, is_large=facts.is_large)
+        watch.put(frames, event, replace(RECLAIM, is_large=facts.is_large))
     else:
-        watch.change(watch.page_frames(frame), immutable=False)
+        watch.change(frames, event, immutable=False)
 
 
 COMMITS = {

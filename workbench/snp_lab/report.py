@@ -5,7 +5,7 @@ import re
 from dataclasses import dataclass, field
 from typing import Dict, List, Tuple
 
-from .texts import Complaint, Line, number_of, told_lines
+from .texts import Complaint, Line, decimal_of, number_of, told_lines
 
 GOOD = ('load', 'store', 'swap', 'opaque')
 # How many words each deed has, its own among them.
@@ -90,11 +90,11 @@ def shaped(line: Line, deed: Tuple[str, ...]) -> None:
     places = {'npt': 1, 'gpt': 1, 'data': 1, 'host': 1}
     if kind in places and not PLACE.match(deed[1]):
         line.fail('`%s` should be a frame or page and an index, as `4:0`' % deed[1])
-    if kind in ('lock', 'lockg', 'commit', 'commitg') and number_of(deed[1]) is None:
+    if kind in ('lock', 'lockg', 'commit', 'commitg') and decimal_of(deed[1]) is None:
         line.fail('`%s` should be a frame or a guest' % deed[1])
     if kind == 'commit' and (number_of(deed[2]) is None or deed[3] not in ('4k', '2m')):
         line.fail('`%s %s` should be a page and its size' % deed[2:4])
-    if kind in ('gpt', 'data') and number_of(deed[2]) is None:
+    if kind in ('gpt', 'data') and decimal_of(deed[2]) is None:
         line.fail('`%s` should be a frame' % deed[2])
     if kind == 'npt' and number_of(deed[2]) is None or kind == 'gpt' and deed[3] != '-' and number_of(deed[3]) is None:
         line.fail('`%s` should be the word that was read' % deed[-1])
@@ -109,6 +109,8 @@ def check_outcome(line: Line, outcome: Tuple[str, ...]) -> None:
         line.fail('the outcome `%s` is cut' % ' '.join(outcome))
     if least >= 2 and number_of(outcome[1]) is None:
         line.fail('`%s` of the outcome should be a number' % outcome[1])
+    if name == 'rc' and outcome[2:] and (len(outcome) != 4 or outcome[2] not in ('by', 'cf') or number_of(outcome[3]) is None):
+        line.fail('`%s` should be a status, and may end with `by ACTOR` or `cf 0`' % ' '.join(outcome))
 
 
 def read_event(line: Line, expected: int) -> Event:

@@ -1,7 +1,7 @@
 """Runs of a scenario under chosen schedules, and which other schedules are worth a run.
 
 A search is a tree: a node is a schedule's beginning, and each actor that isn't finished there makes a branch. Two events
-that touch no word in common, or only read it, commute: both orders give the same outcomes. So an actor that was tried at a
+that touch nothing in common, or only look at it, commute: both orders give the same outcomes. So an actor that was tried at a
 node sleeps in the branches of the others, until an event comes that its own next event doesn't commute with (sleep sets). And
 an event that commutes with all that the others' scripts may still do goes first, with no branch beside it (persistent sets of
 one actor). Of interleavings that differ by commuting events alone one is run.
@@ -141,7 +141,7 @@ class Search:
         return Complaint('the scripts don\'t end where the reports say, so this scenario can\'t be explored', self.scenario.name)
 
     def touch(self, event: Event) -> Touch:
-        return touch_of(event, self.has_firmware) if self.reduce else EVERYTHING
+        return touch_of(self.scenario, event, self.has_firmware) if self.reduce else EVERYTHING
 
     def goes_first(self, event: Event, items: Dict[int, int]) -> bool:
         """Whether an event commutes with all that the other actors may still do, each from the item on that it is at."""

@@ -23,6 +23,10 @@ OPERANDS = {
     'page_move': 3, 'swap_out': 5, 'swap_in': 5, 'page_reclaim': 1,
     'md_out': 5, 'md_in': 5, 'md_root_out': 3, 'md_root_in': 3,
 }
+# Which operands of an item, counted from 1, are frames.
+FRAMES_OF = {'rmpupdate': (1,), 'psmash': (1,), 'gctx_create': (2,), 'launch_update': (2,), 'md_init': (1,), 'page_move': (2, 3),
+             'swap_out': (2, 3, 4), 'swap_in': (2, 3, 4), 'page_reclaim': (1,), 'md_out': (2, 3, 4), 'md_in': (2, 3, 4),
+             'md_root_out': (2, 3), 'md_root_in': (2, 3)}
 ACCESSES = ('load',) + WRITES
 RETRIED = tuple(word for word in OPERANDS if word not in ACCESSES)
 # The items of each role but for accesses and skips.
@@ -60,6 +64,12 @@ class Item:
     @property
     def writes(self) -> bool:
         return self.word in WRITES
+
+    @property
+    def frames(self) -> range:
+        """The frames that an RMPUPDATE or PSMASH is of."""
+        is_large = self.word == 'psmash' or self.operands[1] == 2
+        return range(self.operands[0], self.operands[0] + (512 if is_large else 1))
 
 
 @dataclass

@@ -4,9 +4,10 @@ from __future__ import annotations
 from dataclasses import dataclass, field
 from typing import Callable, Dict, List, Optional, Tuple
 
-from . import codes
+from . import codes, updates
 from .codes import Row
-from .machine import Attempt, Facts, Watch, entry_frame
+from .entries import Facts
+from .machine import Attempt, Watch, entry_frame
 from .report import Event
 from .scenario import ACCESSES, Actor, Item, Scenario
 from .texts import number_of, page_of
@@ -82,11 +83,15 @@ class Teller:
         if event.kind not in deeds_of(item, actor):
             told.misfit = '`%s` has no such event: %s' % (item.word, APART)
             return told
+        if event.attempt > item.retries:
+            told.misfit = '`%s` has %d retries, and this is attempt %d, from 0: %s' % (item.word, item.retries, event.attempt, APART)
         attempt = self.watch.open_attempt(event)
         DEED_WORDS[event.kind](self, told, attempt, actor, item)
         if event.outcome:
-            told.outcome = codes.outcome_words(event.outcome, event.kind)
+            told.outcome = codes.outcome_words(event.outcome, event.kind) + retry_words(event, item)
             self.decide(told, attempt, actor, item)
+        if item.word in updates.INSTRUCTIONS:
+            self.decide_update(told, attempt, item)
         self.watch.take(event)
         return told
 
@@ -135,7 +140,8 @@ class Teller:
         facts = self.watch.facts_of(event.frame)
         if not word & 1:
             is_hidden = facts is not None and facts.assigned
-            zero = ': %s, so that the walker reads 0 there' % self.watch.entry_words(event.frame) if is_hidden else ''
+            zero = ': %s, so that the walker reads 0 there%s' % (
+                self.watch.entry_words(event.frame), self.watch.change_words(event.frame)) if is_hidden else ''
             return codes.NESTED_NOT_PRESENT, 'the word %s has bit 0 clear%s' % (event.deed[2], zero)
         if below >= self.scenario.frames:
             return codes.NESTED_NOT_PRESENT, 'frame %d, which the word %s names, is outside memory, which has %d frames' % (
@@ -187,7 +193,7 @@ class Teller:
             return None
         if row is None:
             return self.origin(told, event, item)
-        return row, self.check_words(row, facts, event, actor, item)
+        return row, self.check_words(row, facts, event, actor, item) + self.watch.change_words(event.frame)
 
     def private_row(self, facts: Facts, gpn: int, leaf_is_large: bool, actor: Actor, is_write: bool, is_read: bool) -> Optional[Row]:
         needs = (1 if is_read else 0) | (2 if is_write else 0)
@@ -242,6 +248,11 @@ class Teller:
             return None
         key = (event.frame, event.place[1])
         written = self.watch.last_write.get(key)
+        refill = self.watch.refill_words(event.frame, -1 if written is None else written)
+        if refill:
+            if self.watch.clears(self.watch.last_refill.at(event.frame) or 0) and event.outcome[1] != '0x0':
+                told.misfit = 'by the scenario this word should be 0x0: %s' % APART
+            return None, refill
         if written is not None:
             return None, 'event %d wrote this word' % written
         if key in self.scenario.words:
@@ -271,33 +282,31 @@ class Teller:
             item.operands[2], item.operands[3], actor.vmpl)
 
     def lock_decision(self, event: Event, attempt: Attempt, actor: Actor, item: Item) -> Optional[Decision]:
+        if item.word in updates.INSTRUCTIONS:
+            return None
         if event.outcome[0] == 'fw':
             return None, self.firmware_words(event, item)
-        status = number_of(event.outcome[1]) or 0
-        if item.word == 'rmpupdate':
-            return self.update_words(status, event, item)
-        if item.word == 'psmash':
-            return self.smash_words(status, event, item)
         return self.validate_words(event, attempt, actor, item)
 
-    def update_words(self, status: int, event: Event, item: Item) -> Decision:
-        frame = item.operands[0]
-        row = codes.UPDATE[{1: 0, 3: 1, 4: 2}.get(status, 3)]
-        if status == 1:
-            return row, bad_update(item, self.scenario.frames)
-        if status == 3:
-            return row, 'actor %s holds the lock' % event.outcome[-1]
-        return row, self.watch.entry_words(frame)
+    def decide_update(self, told: Told, attempt: Attempt, item: Item) -> None:
+        """The row of RMPUPDATE or PSMASH that refused a lock; a lock or commit that the scenario doesn't give is a misfit."""
+        event = told.event
+        if event.kind == 'commit':
+            fault = updates.commit_fault(self.watch, event, attempt, item)
+        else:
+            refusal, known = updates.refusal_of(self.watch, item), updates.are_known(self.watch, item)
+            fault = updates.lock_fault(event, attempt, item, refusal, known)
+            if refusal is not None and refusal.answer == event.answer:
+                told.decided, told.because = str(refusal.row), refusal.because
+            elif event.outcome and not known:
+                told.decided = str(updates.row_of_status(event, item) or '')
+        if fault:
+            told.misfit = 'by the scenario this should be %s: %s' % (fault, APART)
 
-    def smash_words(self, status: int, event: Event, item: Item) -> Decision:
-        frame = item.operands[0]
-        facts = self.watch.facts_of(frame)
-        if status == 1 and (frame >= self.scenario.frames or frame % 512):
-            return codes.SMASH[0], 'frame %d%s' % (frame, ' is no multiple of 512' if frame % 512 else ' is outside memory')
-        if status == 3:
-            return codes.SMASH[1], 'actor %s holds the lock' % event.outcome[-1]
-        words = 'frame %d stands in a page of 4 KB' % frame if facts is not None and not facts.is_large else self.watch.entry_words(frame)
-        return codes.SMASH[2 if status == 1 else 3], words
+    def held_words(self, frame: int, holder: str) -> str:
+        """Who holds the lock of a frame's page, and since when."""
+        held = self.watch.holder(self.watch.page_frames(frame))
+        return self.watch.holder_words(*held) if held is not None else 'actor %s holds the lock' % holder
 
     def validate_words(self, event: Event, attempt: Attempt, actor: Actor, item: Item) -> Optional[Decision]:
         frame = int(event.deed[1])
@@ -314,7 +323,7 @@ class Teller:
         if status == 2:
             return self.adjust_permission(facts, actor, item)
         return {1: (codes.VALIDATE[0], 'page %s was asked' % page_of(attempt.gpn or 0)),
-                3: (codes.VALIDATE[1], 'actor %s holds the lock' % event.outcome[-1]),
+                3: (codes.VALIDATE[1], self.held_words(frame, event.outcome[-1])),
                 6: (codes.VALIDATE[4], entry)}.get(status)
 
     def adjust_permission(self, facts: Optional[Facts], actor: Actor, item: Item) -> Optional[Decision]:
@@ -348,18 +357,13 @@ class Teller:
         return None
 
 
-def bad_update(item: Item, frames: int) -> str:
-    """What is wrong with the operands of an RMPUPDATE."""
-    frame, size, assigned, asid, gpn, immutable = item.operands
-    if frame >= frames:
-        return 'frame %d is outside memory, which has %d frames' % (frame, frames)
-    if size == 2 and frame % 512:
-        return '2 MB are asked, and frame %d is no multiple of 512' % frame
-    if size == 2 and assigned and (gpn % 512 or not asid):
-        return '2 MB are asked as assigned, and the page number is no multiple of 512 or the ASID is 0'
-    if not assigned:
-        return 'the page is to be free, and an ASID, a page number or Immutable is asked'
-    return 'an ASID of 0 is asked with the page number %s' % page_of(gpn)
+def retry_words(event: Event, item: Item) -> str:
+    """Whether an item that found something in use is attempted again; nothing where its line has no retries."""
+    if 'by' not in event.outcome or not item.retries:
+        return ''
+    if event.attempt < item.retries:
+        return '; the item is attempted again, retry %d of %d' % (event.attempt + 1, item.retries)
+    return '; no retry is left, and the actor goes on'
 
 
 def receiver(event: Event) -> str:
@@ -424,6 +428,9 @@ def tell_lock(teller: Teller, told: Told, attempt: Attempt, actor: Actor, item: 
     if told.event.kind == 'lockg':
         told.words.append('%s the context of guest %s' % ('asks for' if told.event.outcome else 'locks', told.event.deed[1]))
         return
+    if item.word in updates.INSTRUCTIONS:
+        told.words.append(updates.lock_words(teller.watch, told.event, item))
+        return
     frame = number_of(told.event.deed[1]) or 0
     verb = 'asks for' if told.event.outcome else 'locks'
     told.words.append('%s the page of frame %d; %s' % (verb, frame, teller.watch.entry_words(frame)))
@@ -432,6 +439,9 @@ def tell_lock(teller: Teller, told: Told, attempt: Attempt, actor: Actor, item: 
 def tell_commit(teller: Teller, told: Told, attempt: Attempt, actor: Actor, item: Item) -> None:
     if told.event.kind == 'commitg':
         told.words.append('the context of guest %s is changed' % told.event.deed[1])
+        return
+    if item.word in updates.INSTRUCTIONS:
+        told.words.append(updates.commit_words(teller.watch, item))
         return
     told.words.append('frame %s, page %s, %s: the change is made' % (
         told.event.deed[1], told.event.deed[2], '2 MB' if told.event.deed[3] == '2m' else '4 KB'))

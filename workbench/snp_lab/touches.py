@@ -1,25 +1,35 @@
-"""Which words of memory events touch, and which ones the rest of a script may touch at most.
+"""What events touch of memory, and what the rest of a script may touch at most: words, RMP entries and locks.
 
-Two events of different actors commute where neither writes a word that the other one reads or writes: what an actor does next
-depends on its own part and on the words that it reads. The entries of the RMP stay as they are but for events that lock,
-compute or commit, which are held to touch everything.
+Two events of different actors commute where neither changes what the other one looks at: what an actor does next depends on
+its own part and on what it reads. Each access and each read of a walk looks at the entry of its frame. An RMPUPDATE or PSMASH
+looks at entries and locks as it takes its lock; its commit changes entries, words and locks. Accesses and walks ignore locks.
+What firmware and the instructions of guests do is held to touch everything.
 """
 from __future__ import annotations
 
 from dataclasses import dataclass
 from typing import Dict, FrozenSet, List, Set, Tuple
 
+from .entries import frames_from, meet
 from .report import Event
 from .scenario import ACCESSES, Actor, Item, Scenario
+from .updates import INSTRUCTIONS, bad_operands
 
 Place = Tuple[int, int]
+NO_FRAMES = range(0)
 
 
 @dataclass(frozen=True)
 class Touch:
-    """The words that an event reads and writes; `own` where it touches its actor alone, `everything` where nothing is known."""
+    """What an event touches: the words that it reads and writes, in a frame whose entry it looks at; the frames whose entries
+    it looks at, and changes with their words; and those whose locks it looks at, and takes or releases. It is `own` where it
+    touches its actor alone, and `everything` where nothing is known."""
     reads: FrozenSet[Place] = frozenset()
     writes: FrozenSet[Place] = frozenset()
+    looks: range = NO_FRAMES
+    changes: range = NO_FRAMES
+    asks: range = NO_FRAMES
+    takes: range = NO_FRAMES
     own: bool = False
     everything: bool = False
 
@@ -28,7 +38,10 @@ class Touch:
             return True
         if self.everything or other.everything:
             return False
-        return not (self.writes & (other.reads | other.writes) or other.writes & self.reads)
+        if self.writes & (other.reads | other.writes) or other.writes & self.reads:
+            return False
+        return not (meet(self.changes, other.looks) or meet(other.changes, self.looks)
+                    or meet(self.takes, other.asks) or meet(other.takes, self.asks))
 
 
 OWN = Touch(own=True)
@@ -36,28 +49,41 @@ NOTHING = Touch()
 EVERYTHING = Touch(everything=True)
 
 
-def touch_of(event: Event, has_firmware: bool) -> Touch:
+def touch_of(scenario: Scenario, event: Event, has_firmware: bool) -> Touch:
     """What an event touched. A begin asks whether the guest runs, which firmware alone can change."""
     if event.kind == 'skip' or event.kind == 'begin' and not has_firmware:
         return OWN
     if event.kind == 'begin':
         return NOTHING
+    item = scenario.actors[event.actor].items[event.item]
+    if item.word in INSTRUCTIONS:
+        return update_touch(scenario, event, item)
     if event.kind not in ('npt', 'gpt', 'data', 'host'):
         return EVERYTHING
-    here = frozenset([(event.frame, event.place[1])])
+    here, looks = frozenset([(event.frame, event.place[1])]), frames_from(event.frame, False)
     if event.kind in ('npt', 'gpt'):
-        return NOTHING if event.deed[-1] == '-' else Touch(reads=here)
+        return Touch(frozenset() if event.deed[-1] == '-' else here, looks=looks)
     name = event.outcome[0]
     if name == 'store':
-        return Touch(writes=here)
+        return Touch(writes=here, looks=looks)
     if name == 'swap' or name == 'cas' and event.outcome[2] == 'yes':
-        return Touch(here, here)
-    return Touch(reads=here) if name in ('load', 'cas') else NOTHING
+        return Touch(here, here, looks=looks)
+    return Touch(here if name in ('load', 'cas') else frozenset(), looks=looks)
+
+
+def update_touch(scenario: Scenario, event: Event, item: Item) -> Touch:
+    """What an event of RMPUPDATE or PSMASH touched. One that is refused for its operands has looked at no entry."""
+    if bad_operands(item, scenario.frames) is not None:
+        return NOTHING
+    frames = item.frames
+    if event.kind == 'commit':
+        return Touch(looks=frames, changes=frames, asks=frames, takes=frames)
+    return Touch(looks=frames, asks=frames, takes=NO_FRAMES if event.outcome else frames)
 
 
 @dataclass(frozen=True)
 class Bound:
-    """At most these words are touched by the rest of a script."""
+    """At most this is touched by the rest of a script."""
     reads: FrozenSet[Place] = frozenset()
     writes: FrozenSet[Place] = frozenset()
     # words of any frame at these places in it, as a guest with tables of its own may write
@@ -65,6 +91,8 @@ class Bound:
     # whether a walk may read any free frame, and any assigned one
     walks: bool = False
     walks_assigned: bool = False
+    # the ranges of frames whose entries, words and locks an RMPUPDATE or PSMASH may look at and change
+    updates: FrozenSet[range] = frozenset()
     everything: bool = False
 
     def commutes(self, touch: Touch, assigned: Set[int]) -> bool:
@@ -75,13 +103,20 @@ class Bound:
             return False
         if any(place in self.writes or place[1] in self.writes_at for place in touch.reads | touch.writes):
             return False
-        return not any(place in self.reads or (self.walks_assigned if place[0] in assigned else self.walks) for place in touch.writes)
+        if any(place in self.reads or (self.walks_assigned if place[0] in assigned else self.walks) for place in touch.writes):
+            return False
+        # a walk looks at the entries of frames that nothing tells beforehand
+        if touch.changes and (self.walks or any(place[0] in touch.changes for place in self.reads | self.writes)):
+            return False
+        return not any(meet(frames, touch.looks) or meet(frames, touch.asks) for frames in self.updates)
 
 
 def item_bound(scenario: Scenario, actor: Actor, item: Item) -> Bound:
     """What one item may touch."""
     if item.word == 'skip':
         return Bound()
+    if item.word in INSTRUCTIONS:
+        return Bound(updates=frozenset([item.frames] if bad_operands(item, scenario.frames) is None else []))
     if item.word not in ACCESSES:
         return Bound(everything=True)
     address = item.operands[0]
@@ -89,18 +124,23 @@ def item_bound(scenario: Scenario, actor: Actor, item: Item) -> Bound:
     if actor.role == 'host':
         places = frozenset([(address >> 12, index)])
         return Bound(places, places if item.writes else frozenset())
-    if actor.paging != 'flat':
+    if actor.paging != 'flat' or validates(scenario):
         return Bound(writes_at=frozenset([index]) if item.writes else frozenset(), walks=True, walks_assigned=True)
-    # a private access passes at the frame of its guest and page alone
+    # a private access passes at the frame of its guest and page alone, as none becomes validated
     gpn = address >> 12 & (1 << 36) - 1
     places = frozenset((page.frame + k, index) for page in scenario.pages if page.guest == actor.guest
                        for k in range(512 if page.is_large else 1) if page.gpn + k == gpn)
     return Bound(places, places if item.writes else frozenset(), walks=True)
 
 
+def validates(scenario: Scenario) -> bool:
+    """Whether a frame may become a validated page of a guest after the opening."""
+    return any(item.word not in ACCESSES + INSTRUCTIONS + ('skip',) for actor in scenario.actors.values() for item in actor.items)
+
+
 def joined(left: Bound, right: Bound) -> Bound:
     return Bound(left.reads | right.reads, left.writes | right.writes, left.writes_at | right.writes_at, left.walks or right.walks,
-                 left.walks_assigned or right.walks_assigned, left.everything or right.everything)
+                 left.walks_assigned or right.walks_assigned, left.updates | right.updates, left.everything or right.everything)
 
 
 def bounds_of(scenario: Scenario) -> Dict[int, List[Bound]]:
@@ -115,4 +155,7 @@ def bounds_of(scenario: Scenario) -> Dict[int, List[Bound]]:
 
 
 def assigned_frames(scenario: Scenario) -> Set[int]:
-    return {page.frame + k for page in scenario.pages for k in range(512 if page.is_large else 1)}
+    """The frames that are assigned at the opening and stay so: no RMPUPDATE may take them."""
+    taken = {frame for actor in scenario.actors.values() for item in actor.items if item.word == 'rmpupdate'
+             and bad_operands(item, scenario.frames) is None for frame in item.frames}
+    return {page.frame + k for page in scenario.pages for k in range(512 if page.is_large else 1)} - taken

@@ -6,22 +6,21 @@ from dataclasses import dataclass, field
 from typing import Callable, Dict, List, Optional, Set, Tuple
 
 from . import order
+from .entries import LARGE
 from .program import Program
-from .scenario import ACCESSES, OPERANDS
+from .scenario import ACCESSES, FRAMES_OF, OPERANDS
 from .texts import Complaint, Line, hex_of, lines_of, number_of
 
 NAME = re.compile(r'[a-z][a-z0-9_]*\Z')
 CALL = re.compile(r'([a-z]+)\(([^()]*)\)\Z')
 RANGE = re.compile(r'([^.]+)\.\.([^.]+)\Z')
-MAP = re.compile(r'map (\S+) root (\S+): (\S+) -> (\S+)( read-only)?\Z')
+MAP = re.compile(r'map (\S+) root (\S+): (\S+) -> (\S+)( 2m)?( read-only)?\Z')
 SECTIONS = {'snp': 0, 'regions': 1, 'frame': 2, 'guest': 3, 'page': 4, 'word': 5, 'map': 5, 'actor': 6, 'order': 7, 'end': 8}
 KEY = '0' * 64
+# What stands for the number of a frame that no line gives, of one frame and of the first of 512, until all others are known.
+UNNUMBERED = {'': -1, '2m': -2}
 KEPT_WORDS = frozenset('''snp regions frame guest page word map root actor order end opened new asid iv key of at valid invalid cpu host
 fw vmpl npt flat gcr3 la57 skip if ok bad value retry read'''.split()) | frozenset(OPERANDS)
-# Which operands of an item, counted from 1, are frames.
-FRAMES_OF = {'rmpupdate': (1,), 'psmash': (1,), 'gctx_create': (2,), 'launch_update': (2,), 'md_init': (1,), 'page_move': (2, 3),
-             'swap_out': (2, 3, 4), 'swap_in': (2, 3, 4), 'page_reclaim': (1,), 'md_out': (2, 3, 4), 'md_in': (2, 3, 4),
-             'md_root_out': (2, 3), 'md_root_in': (2, 3)}
 
 
 @dataclass
@@ -47,6 +46,13 @@ class Draft:
     tables: Dict[Tuple[int, int], int] = field(default_factory=dict)
     leaves: Dict[Tuple[int, int], Tuple[int, int]] = field(default_factory=dict)
     highest: int = 0
+
+    def free_range(self) -> int:
+        """The first frame of 512 that no line names, for a page of 2 MB."""
+        taken = {frame // LARGE for frame in self.used}
+        region = next(region for region in range(1, len(taken) + 2) if region not in taken)
+        self.use_all(range(LARGE * region, LARGE * (region + 1)))
+        return LARGE * region
 
     # Words
 
@@ -78,6 +84,10 @@ class Draft:
         self.used.add(frame)
         self.highest = max(self.highest, frame)
 
+    def use_all(self, frames: range) -> None:
+        self.used.update(frames)
+        self.highest = max(self.highest, frames.stop - 1)
+
     def free_frame(self, behind: int) -> int:
         """The first frame behind another that no line names."""
         frame = behind + 1
@@ -107,6 +117,11 @@ def call_entry(draft: Draft, line: Line, parts: List[int]) -> int:
     return 4096 * parts[0] + (parts[1] if len(parts) == 2 else 7)
 
 
+def call_large(draft: Draft, line: Line, parts: List[int]) -> int:
+    need_parts(line, 'large(FRAME)', parts, 1, 1)
+    return 4096 * parts[0] + 0x87
+
+
 def call_private(draft: Draft, line: Line, parts: List[int]) -> int:
     need_parts(line, 'private(PAGE)', parts, 1, 1)
     return 4096 * parts[0] + 3 + (1 << 51)
@@ -126,7 +141,8 @@ def call_leaf(draft: Draft, line: Line, parts: List[int]) -> int:
 
 
 CALLS: Dict[str, Callable[[Draft, Line, List[int]], int]] = {
-    'addr': call_addr, 'entry': call_entry, 'leaf': call_leaf, 'private': call_private, 'shared': call_shared}
+    'addr': call_addr, 'entry': call_entry, 'large': call_large, 'leaf': call_leaf, 'private': call_private,
+    'shared': call_shared}
 
 
 def need_parts(line: Line, form: str, parts: List[int], least: int, most: int) -> None:
@@ -157,67 +173,96 @@ def read_names(draft: Draft) -> None:
     for entry in (entry for entry in draft.entries if entry.first == 'frame'):
         words = entry.line.words
         if len(words) not in (2, 3):
-            entry.line.fail('`frame NAME F` names frame F, and `frame NAME` one that no other line names')
+            entry.line.fail('`frame NAME F` names frame F, `frame NAME` one that no other line names, and `frame NAME 2m` the first of 512')
         if not NAME.match(words[1]) or words[1] in KEPT_WORDS or words[1] in CALLS:
             entry.line.fail('`%s` can\'t be a name: names are lower-case letters, digits and `_`, and no words of scenarios' % words[1])
         if words[1] in draft.frames:
             entry.line.fail('`%s` is named twice' % words[1])
-        draft.frames[words[1]] = -1 if len(words) == 2 else draft.value(entry.line, words[2])
-        if len(words) == 3:
+        unnumbered = UNNUMBERED.get(' '.join(words[2:]))
+        draft.frames[words[1]] = draft.value(entry.line, words[2]) if unnumbered is None else unnumbered
+        if unnumbered is None:
             draft.use(draft.frames[words[1]])
+
+
+def frame_words(entry: Entry) -> Tuple[List[str], bool]:
+    """The words of a line that name frames, and whether the line is of pages of 2 MB."""
+    words = entry.line.words
+    if entry.first in ('page', 'word') and len(words) > 1:
+        return [words[1]], entry.first == 'page' and '2m' in words
+    if entry.first == 'map':
+        found = MAP.match(entry.line.text)
+        return ([found.group(2), found.group(4)], False) if found else ([], False)
+    if entry.first == 'actor' and 'npt' in words[:-1]:
+        return [words[words.index('npt') + 1]], False
+    named = [words[place] for place in FRAMES_OF.get(entry.first, ()) if place < len(words)]
+    return named, entry.first == 'psmash' or entry.first == 'rmpupdate' and '2m' in words
 
 
 def note_frames(draft: Draft) -> None:
     """Marks the frames that lines name, so that none of them becomes a table."""
+    is_host = False
     for entry in draft.entries:
         words, line = entry.line.words, entry.line
-        named: List[str] = []
-        if entry.first in ('page', 'word') and len(words) > 1:
-            named = [words[1]]
-        elif entry.first == 'map':
-            found = MAP.match(line.text)
-            named = [found.group(2), found.group(4)] if found else []
-        elif entry.first == 'actor' and 'npt' in words[:-1]:
-            named = [words[words.index('npt') + 1]]
-        else:
-            named = [words[place] for place in FRAMES_OF.get(entry.first, ()) if place < len(words)]
+        is_host = 'host' in words if entry.first == 'actor' else is_host
+        named, is_large = frame_words(entry)
         for word in named:
-            if draft.frames.get(word) != -1 and not CALL.match(word):
-                for frame in draft.span(line, word):
-                    if frame < 1 << 20:
-                        draft.use(frame)
-        if entry.first in ACCESSES and len(words) > 1 and number_of(words[1]) is not None:
+            if draft.frames.get(word, 0) >= 0 and not CALL.match(word):
+                frames = draft.span(line, word)
+                if frames.stop <= 1 << 20:
+                    draft.use_all(range(frames.start, frames.stop + (LARGE - 1 if is_large else 0)))
+        if entry.first == 'map' and (found := MAP.match(line.text)) is not None and found.group(5):
+            note_large_map(draft, line, found.group(4))
+        if is_host and entry.first in ACCESSES and len(words) > 1 and number_of(words[1]) is not None:
             draft.used.add((number_of(words[1]) or 0) >> 12)
-    for name in [name for name, frame in draft.frames.items() if frame == -1]:
+    for name in [name for name, frame in draft.frames.items() if frame == UNNUMBERED['2m']]:
+        draft.frames[name] = draft.free_range()
+    for name in [name for name, frame in draft.frames.items() if frame == UNNUMBERED['']]:
         draft.frames[name] = draft.free_frame(7)
 
 
-def map_page(draft: Draft, line: Line, root: int, gpn: int, frame: int, bits: int) -> List[str]:
-    """The words that map one page, with the tables that it needs and that aren't there."""
+def note_large_map(draft: Draft, line: Line, word: str) -> None:
+    """The frames of a page of 2 MB that is mapped, where its first one is known already."""
+    if draft.frames.get(word, 0) >= 0:
+        first = draft.value(line, word)
+        draft.use_all(range(first, first + LARGE))
+
+
+def next_table(draft: Draft, line: Line, table: int, index: int, is_leaf_level: bool) -> Tuple[int, List[str]]:
+    """The table below a word, and the line that makes it where it isn't there."""
+    lines: List[str] = []
+    below = draft.tables.get((table, index))
+    if below is None:
+        below = 4096 * draft.free_frame(table) + 7
+        draft.tables[table, index] = below
+        lines.append('word %d %d %s' % (table, index, hex_of(below)))
+    if not below & 1 or is_leaf_level and below & 0x80:
+        line.fail('word %d of frame %d is %s, which leads to no table' % (index, table, hex_of(below)))
+    return below >> 12 & (1 << 36) - 1, lines
+
+
+def map_page(draft: Draft, line: Line, root: int, gpn: int, entry: int, level: int = 1) -> List[str]:
+    """The words that map one page by an entry at a level, with the tables that it needs and that aren't there."""
     lines: List[str] = []
     table = root
-    for level in (4, 3, 2):
-        index = gpn // 512 ** (level - 1) % 512
-        below = draft.tables.get((table, index))
-        if below is None:
-            below = 4096 * draft.free_frame(table) + 7
-            draft.tables[table, index] = below
-            lines.append('word %d %d %s' % (table, index, hex_of(below)))
-        if not below & 1 or level == 2 and below & 0x80:
-            line.fail('word %d of frame %d is %s, which leads to no table' % (index, table, hex_of(below)))
-        table = below >> 12 & (1 << 36) - 1
-    if (root, gpn) in draft.leaves:
-        line.fail('page %s is mapped twice under root %d' % (hex_of(gpn), root))
-    draft.leaves[root, gpn] = (table, gpn % 512)
-    draft.tables[table, gpn % 512] = 4096 * frame + bits
-    return lines + ['word %d %d %s' % (table, gpn % 512, hex_of(4096 * frame + bits))]
+    for above in range(4, level, -1):
+        table, made = next_table(draft, line, table, gpn // 512 ** (above - 1) % 512, above == 2)
+        lines += made
+    pages = range(gpn, gpn + 512 ** (level - 1))
+    twice = next((page for page in pages if (root, page) in draft.leaves), None)
+    if twice is not None:
+        line.fail('page %s is mapped twice under root %d' % (hex_of(twice), root))
+    index = gpn // 512 ** (level - 1) % 512
+    draft.leaves.update(((root, page), (table, index)) for page in pages)
+    draft.tables[table, index] = entry
+    return lines + ['word %d %d %s' % (table, index, hex_of(entry))]
 
 
 def write_map(draft: Draft, entry: Entry) -> None:
     line = entry.line
     found = MAP.match(line.text)
     if found is None:
-        line.fail('a map is `map GUEST root FRAME: PAGES -> FRAMES`, as `map 1 root 1: 0x0..0x7 -> 64..71`, and may end with `read-only`')
+        line.fail('a map is `map GUEST root FRAME: PAGES -> FRAMES`, as `map 1 root 1: 0x0..0x7 -> 64..71`, and may end with `2m` '
+                  'and `read-only`')
     guest, root = draft.value(line, found.group(1)), draft.value(line, found.group(2))
     declared = [draft.value(other.line, other.line.words[1]) for other in draft.entries
                 if other.first == 'guest' and len(other.line.words) > 1]
@@ -226,8 +271,14 @@ def write_map(draft: Draft, entry: Entry) -> None:
     pages, frames = draft.span(line, found.group(3)), draft.span(line, found.group(4))
     if len(pages) != len(frames):
         line.fail('%d pages are mapped to %d frames' % (len(pages), len(frames)))
+    bits = 5 if found.group(6) else 7
+    if found.group(5):
+        if len(pages) > 1 or pages[0] % LARGE or frames[0] % LARGE:
+            line.fail('a map of 2 MB has the first page and the first frame alone, each a multiple of 512')
+        entry.plain += map_page(draft, line, root, pages[0], 4096 * frames[0] + bits + 0x80, 2)
+        return
     for gpn, frame in zip(pages, frames):
-        entry.plain += map_page(draft, line, root, gpn, frame, 5 if found.group(5) else 7)
+        entry.plain += map_page(draft, line, root, gpn, 4096 * frame + bits)
 
 
 def write_guest(draft: Draft, entry: Entry) -> None:
@@ -247,11 +298,43 @@ def write_page(draft: Draft, entry: Entry) -> None:
     frames, first = draft.span(line, words[1]), draft.span(line, words[5])
     if len(first) not in (1, len(frames)):
         line.fail('%d frames are %d pages' % (len(frames), len(first)))
+    if len(frames) > 1 and words[6] == '2m':
+        line.fail('a page of 2 MB is told by the first of its frames alone')
     if len(frames) == 1:
         entry.plain = [' '.join(words[:1] + [draft.plain_word(line, word) for word in words[1:]])]
         return
     for k, frame in enumerate(frames):
         entry.plain.append('page %d of %s at %s %s' % (frame, draft.plain_word(line, words[3]), hex_of(first[0] + k), ' '.join(words[6:])))
+
+
+def write_update(draft: Draft, entry: Entry) -> None:
+    """An RMPUPDATE, also one that is told as `rmpupdate F free` or `rmpupdate F of G at P`."""
+    line, words = entry.line, entry.line.words
+    retries = words[-2:] if len(words) > 2 and words[-2] == 'retry' else []
+    words = words[:len(words) - len(retries)]
+    if len(words) < 3 or words[2] not in ('free', 'of'):
+        write_plain(draft, entry)
+        return
+    ends = words[3:] if words[2] == 'free' else words[6:]
+    is_right = words[2] == 'free' or len(words) >= 6 and words[4] == 'at'
+    if not is_right or ends not in ([], ['2m'], ['immutable'], ['2m', 'immutable']) or words[2] == 'free' and 'immutable' in ends:
+        line.fail('this should be `rmpupdate F free` or `rmpupdate F of GUEST at PAGE`, with `2m` or `immutable` behind it')
+    size = '2m' if '2m' in ends else '4k'
+    frame = draft.plain_word(line, words[1])
+    asked = ['0', '0', '0', '0']
+    if words[2] == 'of':
+        asked = ['1', asid_of(draft, line, words[3]), draft.plain_word(line, words[5]), '1' if 'immutable' in ends else '0']
+    entry.plain = [' '.join(['rmpupdate', frame, size] + asked + retries)]
+
+
+def asid_of(draft: Draft, line: Line, word: str) -> str:
+    """The ASID of a guest, from its line."""
+    guest = draft.value(line, word)
+    for other in draft.entries:
+        words = other.line.words
+        if other.first == 'guest' and len(words) > 4 and number_of(words[1]) == guest:
+            return words[4]
+    line.fail('guest %d isn\'t declared' % guest)
 
 
 def note_word(draft: Draft, entry: Entry) -> None:
@@ -287,6 +370,8 @@ def write_entries(draft: Draft) -> None:
             write_guest(draft, entry)
         elif entry.first == 'page':
             write_page(draft, entry)
+        elif entry.first == 'rmpupdate':
+            write_update(draft, entry)
         elif entry.first not in ('map', 'frame', 'order'):
             write_plain(draft, entry)
 

@@ -82,8 +82,8 @@
     cell.setAttribute('role', 'gridcell');
     cell.setAttribute('aria-colindex', event.column + 2);
     cell.setAttribute('aria-selected', k === chosen);
-    cell.setAttribute('aria-label', 'event ' + k + ', actor ' + data.actors[event.column].number + ', item ' + event.item + ': ' + event.deed
-      + ['', ', refused or hidden', ', fault'][event.mark]);
+    cell.setAttribute('aria-label', 'event ' + k + ', actor ' + data.actors[event.column].number + ', item ' + event.item
+      + (event.attempt ? ', attempt ' + event.attempt : '') + ': ' + event.deed + ['', ', refused or hidden', ', fault'][event.mark]);
     cell.title = k + ' ' + lines[k];
     if (event.mark) { cell.classList.add(event.mark === 2 ? 'fault' : 'refusal'); }
     if (matched.has(k)) { cell.classList.add('match'); }

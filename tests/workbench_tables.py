@@ -1,0 +1,349 @@
+"""The tables of tests/workbench: what is said of codes, reports and mistakes, and which events commute."""
+KEY = '0' * 64
+
+BASE = '''snp 1
+regions 1
+guest 1 opened asid 1 iv 0 key %s
+page 8 of 1 at 0 4k valid 0 0 0
+word 1 0 0x2007
+word 2 0 0x3007
+word 3 0 0x4007
+word 4 0 0x8007
+actor 1 cpu 1 vmpl 0 npt 1 flat
+store 0x10 5
+load 0x10
+''' % KEY
+HOST = 'actor 2 host\nstore 0x4000 0x9007\n'
+
+# What is said of codes: the words of the command line, and what must stand in the answer.
+CODES = [
+    (['0x580000005'], 'nested page fault: present, user, RMP, final translation, private\n'),
+    (['npf', '0x580000007'], 'nested page fault: present, write, user, RMP, final translation, private\n'),
+    (['0x1580000007'], 'nested page fault: present, write, user, RMP, final translation, private, VMPL permissions\n'),
+    (['0x500000004'], 'nested page fault: not present, user, final translation, private\n'),
+    (['0x100000004'], 'nested page fault: not present, user, final translation, shared\n'),
+    (['0x180000007'], 'a shared access, row 1 "assigned"'),
+    (['0x600000006'], 'nested page fault: not present, write, user, guest table, private\n'),
+    (['0x600000007'], 'nested page fault: present, write, user, guest table, private\n'),
+    (['0x680000007'], 'nested page fault: present, write, user, RMP, guest table, private\n'),
+    (['0x1680000007'], 'guest table, private, VMPL permissions\n'),
+    (['0xd80000005'], 'private, another page size\n'),
+    (['0x580000008'], 'no fault of the model has this code'),
+    (['0x1580000007'], 'goes to: the hypervisor'),
+    (['0x404'],
+     'vc 0x404: #VC: the page isn\'t validated\n  goes to: the guest itself\n  decided by: a private access, row 5 "not validated"'),
+    (['0x80000003'], 'pf 0x80000003 behind `host`: page fault of the hypervisor: present, write, RMP'),
+    (['pf', '0x0'], 'page fault of the guest\'s own tables: not present\n  goes to: the guest itself'),
+    (['pf', '0x2'], 'not present, write\n'),
+    (['pf', '0x3'], 'present, write\n'),
+    (['rc', '4'], 'FAIL_OVERLAP'),
+    (['fw', '0x1a'], 'INVALID_PAGE_STATE'),
+    (['rc', '3', 'fw', '0x100'], 'PAGE_IN_USE'),
+    (['rc', '4'], 'decided by: RMPUPDATE, row 3 "4 KB, and F is in a 2 MB page; 2 MB, the range is no 2 MB page'),
+    (['rc', '2'], '    PSMASH, row 4 "F is immutable"'),
+    (['rc 3 by 2'], '    PSMASH, row 2 "F\'s page is locked"'),
+    (['rc 3 by 2'], 'held by: actor 2'),
+    (['status', '8'], 'an entry of the schedule names an actor that is missing or finished'),
+    (['error schedule 6 1'], 'entry 6 of the schedule, counted from 0, names actor 1'),
+    (['error', 'scenario', '11', 'cut'], 'line 11: the last line has no line feed'),
+    (['error limit attempts 8193 8192'], 'it would have 8193 attempts, and the most is 8192'),
+]
+
+# What is said of a scenario and its stored report.
+EXPLAINED = [
+    ('page_of_another_address', ['because: frame 9 is page 1 of guest 1, and page 0 was asked', 'a private access, row 2 "another gpn"',
+                                 'goes to: the hypervisor']),
+    ('remapped_between_two_loads', ['frame 9 is nobody\'s, and the access is of guest 1', 'row 1 "not assigned, or another ASID"']),
+    ('page_of_another_guest', ['frame 8 is page 0 of guest 1, and the access is of guest 2']),
+    ('large_nested_leaf', ['row 4 "of size 4 KB, and the leaf is of 2 MB"']),
+    ('unvalidated_page', ['row 5 "not validated"', 'goes to: the guest itself']),
+    ('write_without_permission', ['row 6 "the VMPL\'s permissions lack', 'VMPL1 has the permissions 1, and `store` needs bit 1']),
+    ('host_store_to_a_guest_page', ['an access of the hypervisor, row 1 "assigned"', 'goes to: the hypervisor itself']),
+    ('host_load_of_a_guest_page', ['an access of the hypervisor, row 2 "assigned"', 'the word stays hidden']),
+    ('shared_page', ['a shared access, row 2 "assigned"']),
+    ('unmapped_page', ['a nested walk, "bit 0 (present) is clear, or the frame below is outside memory"', 'the word 0x0 has bit 0 clear']),
+    ('guest_table_remapped_between_two_walks', ['the RMP refused the read', 'nested page fault: present, write, user, RMP, guest table']),
+    ('entry_outside_memory', ['is outside memory, which has 512 frames']),
+    ('entry_without_user', ['a nested walk, "bit 2 (user) is clear"']),
+    ('entry_without_write', ['a nested walk, "bit 1 (writable) is clear, and the access writes']),
+    ('guest_entry_that_is_not_present', ['a guest walk, "bit 0 (present) is clear"', 'goes to: the guest itself']),
+    ('guest_entry_without_write', ['a guest walk, "bit 1 (writable) is clear, and the access writes"']),
+    ('assigned_table_reads_as_zero', ['so that the walker reads 0 there']),
+    ('exchanges_of_an_unvalidated_page', ['row 5 "not validated"']),
+    ('page_taken_under_a_walk', ['frame 8 is nobody\'s, and the access is of guest 1; event 6, `rmpupdate 8 4k 0 0 0 0` of actor 2, changed']),
+    ('large_page_split_under_a_guest', ['a page of 4 KB, and the nested leaf is of 2 MB; event 6, `psmash 512` of actor 2, changed the entry']),
+    ('race_for_one_entry', ['RMPUPDATE, row 2 "a frame of the range is locked"',
+                            'actor 1 holds it; the item is attempted again, retry 1 of 1\n',
+                            'actor 1 holds the lock of frame 9, which event 0 took for `rmpupdate 9 4k 1 1 3 0`',
+                            'actor 2 holds the lock of frame 9, which event 3 took for `rmpupdate 9 4k 1 1 4 0 retry 1`']),
+    ('updates_and_their_refusals', [
+        'frame 1024 is outside memory, which has 1024 frames', 'RMPUPDATE, row 1 "2 MB, and F is no multiple of 512"',
+        'RMPUPDATE, row 1 "2 MB, assigned, and the gpn is no multiple of 512 or the ASID is 0"',
+        'the page is to be free, and an ASID is asked', 'the page is to be free, and Immutable is asked',
+        'RMPUPDATE, row 1 "assigned, the ASID is 0, and the gpn isn\'t 0"', '4 KB are asked, and frame 515 is page 0x203 of guest 1',
+        '2 MB are asked, frames 0 to 511 are no page of 2 MB, and frame 8 is page 0 of guest 1',
+        '2 MB are asked, frames 0 to 511 are no page of 2 MB, and frame 9 is page 9 of guest 1, not validated, immutable; event 12, `rmpupdate 9',
+        'RMPUPDATE, row 4 "a frame of the range is immutable"', 'PSMASH, row 1 "F isn\'t in memory, or is no multiple of 512"',
+        'PSMASH, row 3 "F is in no 2 MB page"', 'PSMASH, row 4 "F is immutable"']),
+    ('large_page_split_and_freed', ['frame 512 is page 0x400 of guest 1, in a page of 4 KB; event 1, `psmash 512` of actor 1, changed the entry',
+                                    'frames 512 to 1023 are no page of 2 MB, and frame 512 is page 0x400 of guest 1; event 1']),
+    ('locks_of_ranges', ['actor 1 holds the lock of frame 515', 'attempt 2\n', 'actor 1 holds it; no retry is left, and the actor goes on',
+                         'actor 3 holds the lock of frame 516']),
+    ('lock_of_a_large_page', ['asks for the lock of frame 600; frame 600 is page 0x258 of guest 1, in a page of 2 MB',
+                              'actor 1 holds the lock of frame 600, which event 0 took for `psmash 512`', 'PSMASH, row 2 "F\'s page is locked"']),
+    ('smallest', ['no event of this report is a fault or a refusal']),
+]
+
+# What is said of single events: the scenario, the number, and what must stand in the answer.
+EXPLAINED_EVENTS = [
+    ('page_taken_under_a_walk', 5, ['takes the lock of frame 8; frame 8 is page 0 of guest 1']),
+    ('page_taken_under_a_walk', 6, ['frame 8 becomes free; the words become zero; the lock is released']),
+    ('page_taken_under_a_walk', 8, ['event 6, `rmpupdate 8 4k 0 0 0 0` of actor 2, took the frame from its owner, and its words became zero']),
+    ('large_page_split_under_a_guest', 5, ['takes the lock of frames 512 to 1023; frame 512 is page 0x200 of guest 1, in a page of 2 MB']),
+    ('large_page_split_under_a_guest', 6, ['frames 512 to 1023 become 512 pages of 4 KB, each with the page number that it had']),
+    ('race_for_one_entry', 2, ['frame 9 becomes page 3 of guest 1, not validated; the words stay, since nobody owned them']),
+    ('race_for_one_entry', 5, [', attempt 1\n', 'frame 9 becomes page 4 of guest 1, not validated; the words become zero']),
+    ('region_assigned_and_freed', 0, ['takes the lock of frames 512 to 1023; they are nobody\'s']),
+    ('region_assigned_and_freed', 1, ['frames 512 to 1023 become the page of 2 MB at page 0x400 of guest 1, not validated']),
+    ('region_assigned_and_freed', 5, ['frames 512 to 1023 become free; the words become zero']),
+    ('updates_and_their_refusals', 12, ['frame 9 becomes page 9 of guest 1, not validated, immutable']),
+    ('updates_and_their_refusals', 18, ['frames 512 to 1023 become immutable; all else stays, the words too']),
+    ('words_of_updated_frames', 9, ['frame 20 becomes the firmware\'s (Reclaim); the words stay']),
+]
+
+# Reports that can't be of their scenario: the scenario, a part of its report, what stands there instead, and what is said.
+MISFITS = [
+    ('race_for_one_entry', '1 2 0.0 lock 9 rc 3 by 1\n', '1 2 0.0 lock 9\n', 'this should be `rc 3 by 1`'),
+    ('race_for_one_entry', '1 2 0.0 lock 9 rc 3 by 1\n', '1 2 0.0 lock 9 rc 3 by 3\n', 'this should be `rc 3 by 1`'),
+    ('race_for_one_entry', '0 1 0.0 lock 9\n', '0 1 0.0 lock 9 rc 2\n', 'this should be let through'),
+    ('race_for_one_entry', '0 1 0.0 lock 9\n', '0 1 0.0 lock 8\n', 'this should be the lock of frame 9'),
+    ('race_for_one_entry', '2 1 0.0 commit 9 0x3 4k rc 0\n', '2 1 0.0 commit 9 0x4 4k rc 0\n', 'this should be `commit 9 0x3 4k rc 0`'),
+    ('race_for_one_entry', '2 1 0.0 commit 9 0x3 4k rc 0\n', '2 1 0.0 lock 9\n', 'this should be a `commit`'),
+    ('race_for_one_entry', '0 1 0.0 lock 9\n', '0 1 0.0 commit 9 0x3 4k rc 0\n', 'this should be a `lock`'),
+    ('race_for_one_entry', '4 1 1.0 lock 9', '4 1 1.1 lock 9', 'has 0 retries, and this is attempt 1'),
+    ('page_taken_under_a_walk', 'host 8:2 load 0x0', 'host 8:2 load 0x7', 'this word should be 0x0'),
+    ('page_taken_under_a_walk', 'npf 0x580000005', 'load 0x7', 'this should be `npf 0x580000005`'),
+    ('large_page_split_and_freed', 'commit 512 0x400 2m', 'commit 512 0x0 2m', 'this should be `commit 512 0x400 2m rc 0`'),
+    ('large_page_split_and_freed', 'lock 512 rc 4', 'lock 512 rc 2', 'this should be `rc 4`'),
+]
+
+# Commands that must be refused: arguments, input, and what must be said.
+REFUSED = [
+    (['frobnicate'], '', 'invalid choice'),
+    (['explain'], '', 'required'),
+    (['explain', 'examples/none.snp'], '', 'examples/none.snp: no such file or directory'),
+    (['explain', 'examples'], '', 'examples: is a directory'),
+    (['explain', '-', '-'], '', '`-` stands twice'),
+    (['explain', '0x580000005', 'rc'], '', '`rc` is no code'),
+    (['explain', 'rc', 'three'], '', '`three` should be a number'),
+    (['explain', 'examples/smallest.snp', '-'], '', 'standard input:1: the report ends without its `end` line'),
+    (['explain', 'examples/smallest.snp', '-'], 'error scenario 11 cut\n',
+     'standard input:1: this is no report but the program\'s refusal'),
+    (['explain', 'examples/smallest.snp', '-'], 'hello\n', 'standard input:1: a report begins with `snp-report 1`'),
+    (['explain', 'examples/smallest.snp', '-'], 'snp-report 1\n0 1 0.0 begin\n2 1 0.0 begin\n',
+     'standard input:3: this event should have the number 1'),
+    (['explain', 'examples/smallest.snp', '-'], 'snp-report 1\n0 1 0.0 jump\n', 'standard input:2: `jump` is no deed'),
+    (['explain', 'examples/smallest.snp', '-'], 'snp-report 1\n0 1 0.0 npt 4 5\n',
+     'standard input:2: `4` should be a frame or page and an index'),
+    (['explain', 'examples/smallest.snp', '-'], 'snp-report 1\nend 1\n',
+     'standard input:2: the report ends with `end 1`, and has 0 events'),
+    (['explain', '--event', '12', 'examples/smallest.snp', 'tests/cases/smallest.out'], '',
+     'there is no event 12: the report has 12 events'),
+    (['explain', '-', 'tests/cases/smallest.out'], 'snp 1\r\nregions 1\r\n',
+     'standard input:1: this line has a carriage return'),
+    (['explain', '-', 'tests/cases/smallest.out'], 'snp 1\nregions\t1\n', 'standard input:2: this line has a tab'),
+    (['explain', '-', 'tests/cases/smallest.out'], '\ufeffsnp 1\n', 'standard input:1: this line has a byte order mark'),
+    (['explain', '-', 'tests/cases/smallest.out'], 'snp 1\nregions  1\n',
+     'standard input:2: this line has a leading, trailing or doubled space'),
+    (['explain', '-', 'tests/cases/smallest.out'], 'snp 1\nregions 1', 'standard input:2: the last line has no line feed'),
+    (['explain', '-', 'tests/cases/smallest.out'], BASE + 'jump 1\nend\n',
+     'standard input:12: `jump` is no item of a guest\'s processor'),
+    (['explain', '-', 'tests/cases/smallest.out'], BASE, 'standard input:12: the text ends without `end`'),
+    (['explain', '-', 'tests/cases/smallest.out'], BASE + 'order 1*x\nend\n',
+     'standard input:12: `1*x` is neither an actor nor an actor with its count'),
+    (['brief', '-'], 'snp-report 1\n0 1 0.0 lock 9 rc 3 by\n', 'standard input:2: `rc 3 by` should be a status'),
+    (['brief', '-'], 'snp-report 1\n0 1 0.0 lock 0x9\n', 'standard input:2: `0x9` should be a frame or a guest'),
+    (['brief', '-'], 'snp-report 1\n0 1 0.0 commit 9 0x3 8k rc 0\n', 'standard input:2: `0x3 8k` should be a page and its size'),
+    (['explain', 'rc 3 by'], '', '`by` is no code'),
+    (['brief', '-'], 'snp-report 1\n0 1 0.0 begin\r\n', 'standard input:2: this line has a carriage return'),
+    (['brief', '-'], 'snp-report 1\n0 1 0.0 begin\t\n', 'standard input:2: this line has a tab'),
+    (['brief', '-'], '\ufeffsnp-report 1\n', 'standard input:1: this line has a byte order mark'),
+    (['write', '-'], '', 'standard input: there is no line in this text'),
+    (['write', '-'], BASE + 'frob 1\n', 'standard input:12: `frob` begins no line of a scenario'),
+    (['write', '-'], BASE + 'load nowhere\n', 'standard input:12: `nowhere` is neither a number nor a named frame'),
+    (['write', '-'], BASE + 'frame host 3\n', 'standard input:12: `host` can\'t be a name'),
+    (['write', '-'], BASE + 'frame a 3\nframe a 4\n', 'standard input:13: `a` is named twice'),
+    (['write', '-'], BASE + 'map 1 root 1 0x0 -> 9\n',
+     'standard input:12: a map is `map GUEST root FRAME: PAGES -> FRAMES`'),
+    (['write', '-'], BASE + 'map 2 root 1: 0x1 -> 9\n', 'standard input:12: guest 2 isn\'t declared'),
+    (['write', '-'], BASE + 'map 1 root 1: 0x1..0x3 -> 9..10\n', 'standard input:12: 3 pages are mapped to 2 frames'),
+    (['write', '-'], BASE + 'map 1 root 1: 0x3..0x1 -> 9..11\n', 'standard input:12: `0x3..0x1` goes backwards'),
+    (['write', '-'], BASE + 'map 1 root 1: 0x1 -> 9\nmap 1 root 1: 0x1 -> 10\n',
+     'standard input:13: page 0x1 is mapped twice'),
+    (['write', '-'], BASE + 'load leaf(1,0x7)\n', 'standard input:12: no `map` line with root 1 has page 0x7'),
+    (['write', '-'], BASE + 'load addr(1)\n', 'standard input:12: this should be `addr(FRAME,INDEX)`'),
+    (['write', '-'], BASE + 'load jump(1)\n', 'standard input:12: `jump` is no call'),
+    (['write', '-'], BASE + 'page 512..1023 of 1 at 0x200 2m\n', 'standard input:12: a page of 2 MB is told by the first of its frames'),
+    (['write', '-'], BASE + 'map 1 root 1: 0x201 -> 512 2m\n', 'standard input:12: a map of 2 MB has the first page and the first frame'),
+    (['write', '-'], BASE + HOST + 'rmpupdate 9 free immutable\n', 'standard input:14: this should be `rmpupdate F free`'),
+    (['write', '-'], BASE + HOST + 'rmpupdate 9 of 1\n', 'standard input:14: this should be `rmpupdate F free`'),
+    (['write', '-'], BASE + HOST + 'rmpupdate 9 of 2 at 3\n', 'standard input:14: guest 2 isn\'t declared'),
+    (['write', '-'], BASE + 'order 1?\n', 'standard input:12: `1?` is no part of an order'),
+    (['write', '-'], BASE.replace('\n', '\r\n'), 'standard input:1: this line has a carriage return at its end'),
+    (['test', '-'], BASE + '# expect\nend\n', 'standard input:12: `expect` says nothing'),
+    (['test', '-'], BASE + '# expect status eight\nend\n', 'standard input:12: `expect status` has one number'),
+    (['test', '-'], BASE + '# expect no\nend\n', 'standard input:12: `expect no` has a line'),
+    (['test', 'examples/smallest.snp'], '', '/no/such/program: there is no program of this name'),
+    (['explore', '--most', '-1', 'examples/smallest.snp'], '', '--most should be 0 or more'),
+    (['explore', '--until', ' ', '-', '--program', 'true'], BASE + 'end\n', '`--until` has a pattern of a report line'),
+    (['explore', '-', '--program', 'true'], 'snp 1\nregions 1\nend\n',
+     'standard input: no actor of this scenario has an item'),
+    (['explore', '--after', '3', '-', '--program', 'true'], BASE + 'order 1*2\nend\n',
+     'the order has 2 events, and --after asks for 3'),
+    (['explore', '-', '--program', 'true'], BASE + 'end\n', 'the program answered'),
+    (['view', 'examples/smallest.snp', 'tests/cases/none.out'], '', 'tests/cases/none.out: no such file or directory'),
+]
+
+# Patterns of lines, a line, and whether the pattern fits.
+PATTERNS = [
+    ('...', 'a b', True), ('...', '', True), ('... npf *', '1 2 npf 0x5', True), ('... npf *', 'npf 0x5', True), ('npf ...', 'npf', True),
+    ('npf ...', 'npf 1 2', True), ('* 1 ... npf 0x58*', '5 1 0.0 data npf 0x580005', True), ('* 1 ...', '5 11 0', False),
+    ('a ... b', 'a b', True), ('a ... b', 'a c d b', True), ('a ... b', 'ac b', False), ('... b', 'ab', False), ('... b', 'c b', True),
+    ('a', 'a b', False), ('* *', 'a', False), ('a.c', 'abc', False), ('guest 1 running -', 'guest 1 running -', True),
+]
+
+PLAIN = '''# a comment
+snp 1
+regions 1
+# frame decoy 100
+# guest 1 opened asid 1
+guest 1 opened asid 1 iv 0 key %s
+# page 64..65 of 1 at 0x0
+page 64 of 1 at 0x0 4k valid 0 0 0
+page 65 of 1 at 0x1 4k valid 0 0 0
+# page decoy of 1 at 9 4k invalid 1 2 3
+page 100 of 1 at 9 4k invalid 1 2 3
+# map 1 root 1: 0x0..0x1 -> 64..65
+word 1 0 0x2007
+word 2 0 0x3007
+word 3 0 0x4007
+word 4 0 0x40007
+word 4 1 0x41007
+# map 1 root 1: 0x200 -> decoy read-only
+word 3 1 0x5007
+word 5 0 0x64005
+actor 1 cpu 1 vmpl 0 npt 1 flat
+load 0x10
+actor 2 host
+# store leaf(1,0x1) entry(decoy)
+store 0x4008 0x64007
+# load addr(decoy,2)
+load 0x64010
+# store addr(9,0) private(4)
+store 0x9000 0x8000000004003
+# store addr(9,0) shared(4)
+store 0x9000 0x4003
+order 1*6 2
+end
+''' % KEY
+SHORT_TEXT = '''# a comment
+frame decoy 100
+map 1 root 1: 0x0..0x1 -> 64..65
+map 1 root 1: 0x200 -> decoy read-only
+guest 1 opened asid 1
+page 64..65 of 1 at 0x0
+page decoy of 1 at 9 4k invalid 1 2 3
+actor 1 cpu 1 vmpl 0 npt 1 flat
+load 0x10
+actor 2 host
+store leaf(1,0x1) entry(decoy)
+load addr(decoy,2)
+store addr(9,0) private(4)
+store addr(9,0) shared(4)
+order 1*6 2
+'''
+
+PLAIN_UPDATES = '''snp 1
+regions 2
+# frame big 2m
+# guest 1 opened asid 7
+guest 1 opened asid 7 iv 0 key %s
+# page big of 1 at 0x200 2m
+page 512 of 1 at 0x200 2m valid 0 0 0
+# map 1 root 1: 0x200 -> big 2m
+word 1 0 0x2007
+word 2 0 0x3007
+word 3 1 0x200087
+# map 1 root 1: 0x400 -> big 2m read-only
+word 3 2 0x200085
+actor 1 host
+# psmash big
+psmash 512
+# rmpupdate 9 free retry 3
+rmpupdate 9 4k 0 0 0 0 retry 3
+# rmpupdate big free 2m
+rmpupdate 512 2m 0 0 0 0
+# rmpupdate 9 of 1 at 0x5 immutable
+rmpupdate 9 4k 1 7 0x5 1
+# rmpupdate big of 1 at 0x200 2m retry 1
+rmpupdate 512 2m 1 7 0x200 0 retry 1
+# rmpupdate big 2m 1 0x7 512 1
+rmpupdate 512 2m 1 0x7 512 1
+# store leaf(1,0x203) large(big)
+store 0x3008 0x200087
+end
+''' % KEY
+
+# Two events, each as its actor's role, its item and its deed, and whether they commute.
+FREE_8, FREE_600 = ('host', 'rmpupdate 8 4k 0 0 0 0'), ('host', 'rmpupdate 600 4k 0 0 0 0')
+FREE_512, SMASH = ('host', 'rmpupdate 512 2m 0 0 0 0'), ('host', 'psmash 512')
+GUEST = 'cpu 1 vmpl 0 npt 1 flat'
+COMMUTING = [
+    (FREE_8 + ('lock 8',), ('host', 'load 0x8000', 'host 8:0 opaque'), True),  # accesses ignore locks
+    (FREE_8 + ('commit 8 0x0 4k rc 0',), ('host', 'load 0x8000', 'host 8:0 opaque'), False),
+    (FREE_8 + ('commit 8 0x0 4k rc 0',), ('host', 'store 0x8000 1', 'host 8:0 pf 0x80000003'), False),
+    (FREE_8 + ('commit 8 0x0 4k rc 0',), ('host', 'load 0x9000', 'host 9:0 load 0x0'), True),
+    (FREE_8 + ('commit 8 0x0 4k rc 0',), FREE_8 + ('lock 8 rc 3 by 1',), False),
+    (FREE_8 + ('lock 8',), FREE_8 + ('lock 8 rc 3 by 1',), False),
+    (FREE_8 + ('lock 8 rc 2',), FREE_8 + ('lock 8 rc 2',), True),
+    (FREE_8 + ('lock 8',), FREE_600 + ('lock 600',), True),
+    (FREE_8 + ('commit 8 0x0 4k rc 0',), FREE_512 + ('commit 512 0x0 2m rc 0',), True),
+    (FREE_512 + ('lock 512',), FREE_600 + ('lock 600 rc 3 by 1',), False),
+    (FREE_512 + ('commit 512 0x0 2m rc 0',), ('host', 'store 0x3ff000 1', 'host 1023:0 store'), False),
+    (FREE_512 + ('commit 512 0x0 2m rc 0',), ('host', 'store 0x400000 1', 'host 1024:0 store'), True),
+    (SMASH + ('lock 512',), FREE_600 + ('lock 600',), False),
+    (SMASH + ('commit 512 0x200 2m rc 0',), (GUEST, 'load 0x203008', 'data 0x203:1 515 p load 0x7'), False),
+    (('host', 'psmash 513', 'lock 513 rc 1'), FREE_512 + ('commit 512 0x0 2m rc 0',), True),  # no entry was looked at
+    (('host', 'rmpupdate 9999 4k 0 0 0 0', 'lock 9999 rc 1'), FREE_8 + ('commit 8 0x0 4k rc 0',), True),
+    (FREE_8 + ('commit 8 0x0 4k rc 0',), (GUEST, 'load 0x10', 'npt 8:0 0x0 npf 0x500000004'), False),
+    (FREE_8 + ('lock 8',), (GUEST, 'load 0x10', 'npt 8:0 0x0 npf 0x500000004'), True),
+    (FREE_8 + ('commit 8 0x0 4k rc 0',), (GUEST, 'load 0x10', 'gpt 0x0:0 8 - vc 0x404'), False),
+    (FREE_8 + ('commit 8 0x0 4k rc 0',), (GUEST, 'load 0x10', 'begin'), True),
+]
+
+# What the examples' items can end with in all interleavings.
+UPDATES_EXPLORED = [
+    ('race_for_one_entry', {(1, 0): {'rc 0', 'rc 3 by 2'}, (1, 1): {'rc 0', 'rc 3 by 2'},
+                            (2, 0): {'rc 0', 'rc 3 by 1', 'rc 3 by 1, then rc 0'}}),
+    ('page_taken_under_a_walk', {(1, 0): {'load 0x7', 'npf 0x580000005'}, (2, 0): {'rc 0'}, (2, 1): {'load 0x0'}}),
+]
+
+# Scripts whose interleavings are all run, with and without the ones that differ by commuting events alone.
+REDUCED = [
+    'actor 1 host\nstore 16392 32775\nactor 2 host\nxor 45056 32775\nxor 16384 45063\nxor 16392 36871\n'
+    'actor 3 host\nload 16384\nxor 45056 36871\nstore 45056 32775\n',
+    'actor 1 host\nstore 45056 1\nactor 2 host\nstore 45056 2\nload 45056\n',
+    'actor 1 host\nstore 45056 1\nload 45064\nactor 2 host\nstore 45064 1\nload 45056\n',
+    'actor 1 host\ncas 45056 0 1\nskip 1 if bad\nstore 45064 1\nactor 2 host\ncas 45056 0 2\nskip 1 if bad\nstore 45064 2\nload 45064\n',
+    'actor 1 cpu 1 vmpl 0 npt 1 flat\nload 0x10\nactor 2 host\nstore 16384 36871\nstore 16384 32775\nxor 12288 1\n',
+    'actor 1 cpu 1 vmpl 1 npt 1 flat\nstore 0x10 1\nactor 2 host\nstore 12288 0\nload 16384\nstore 32784 1\n',
+    'actor 1 cpu 1 vmpl 0 npt 1 flat\nstore 0x10 1\nactor 2 host\nrmpupdate 8 4k 0 0 0 0\nload 32784\n',
+    'actor 1 cpu 1 vmpl 0 npt 1 flat\nstore 0x10 1\nactor 2 host\nrmpupdate 4 4k 1 1 9 0\nload 32784\n',
+    'actor 1 host\nrmpupdate 9 4k 1 1 3 0\nload 36864\nactor 2 host\nstore 36864 1\nrmpupdate 9 4k 1 1 4 1 retry 2\n',
+    'actor 1 host\nrmpupdate 8 4k 0 0 0 0\nskip 1 if bad\nrmpupdate 0 2m 1 1 512 0\nactor 2 host\nrmpupdate 7 4k 1 1 7 0 retry 1\n',
+]
+# The same of a page of 2 MB at frame 512.
+REDUCED_LARGE = [
+    'actor 1 host\npsmash 512\nrmpupdate 600 4k 0 0 0 0\nactor 2 host\nrmpupdate 512 2m 0 0 0 0 retry 1\nload 0x258000\n',
+    'actor 1 cpu 1 vmpl 0 npt 1 flat\nload 0x203008\nactor 2 host\npsmash 512\nrmpupdate 515 4k 0 0 0 0\n',
+]
