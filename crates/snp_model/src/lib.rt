@@ -11,6 +11,7 @@ mod item;
 mod listed;
 mod reading;
 mod report;
+mod same;
 mod scenario;
 mod standards;
 mod walk;
