@@ -1,16 +1,15 @@
-//! Whether two scenarios are one.
-ghost use Rattle.std.specs.Prelude.{◌≡◌, length, take};
-ghost use Rattle.std.specs.Bool.{OnTrue};
+//! Whether two scenarios are equal.
+ghost use Rattle.std.specs.Prelude.{◌≡◌, ◌↔◌, IsTrue};
 
 use crate::{
     Actor, Command, GuestSpec, Item, Line, Op, PageSpec, Role, Scenario, SkipTest, Turn, Update,
     WordSpec,
 };
 
-// A comparison whose answer true means one value. What it answers else is nobody's business.
+// Values that are compared whole: the answer says whether they are equal, as `==` of a list of them doesn't.
 trait Same {
     fn same(&self, other: &Self) -> bool
-        ensures { OnTrue result (self.now ≡ other.now) };
+        ensures { IsTrue result ↔ (self.now ≡ other.now) };
 }
 
 impl Same for GuestSpec {
@@ -137,9 +136,9 @@ impl Same for Actor {
 }
 
 impl Scenario {
-    /// Whether it is the same as another.
+    /// Whether it is equal to another.
     pub fn is_same(&self, other: &Scenario) -> bool
-        ensures { OnTrue result (self.now ≡ other.now) }
+        ensures { IsTrue result ↔ (self.now ≡ other.now) }
     {
         self.version == other.version
             && self.regions == other.regions
@@ -151,9 +150,9 @@ impl Scenario {
     }
 }
 
-// Whether two lists have the same elements.
+// Whether two lists are equal.
 fn same_lists<T: Same>(these: &[T], those: &[T]) -> bool
-    ensures { OnTrue result (these.now ≡ those.now) }
+    ensures { IsTrue result ↔ (these.now ≡ those.now) }
 {
     if these.len() != those.len() {
         return false;
