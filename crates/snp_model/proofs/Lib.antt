@@ -13,6 +13,7 @@ pub mod GuestMemoryLaws
 pub mod GuestReadsLaws
 pub mod HeldLocksLaws
 pub mod InstructionLocality
+pub mod JournalsLaws
 pub mod LargePages
 pub mod LocalityLaws
 pub mod LockLaws

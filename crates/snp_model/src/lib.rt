@@ -2,6 +2,7 @@
 #![tactic(auto)]
 
 mod access;
+mod attempts;
 mod command;
 mod entry;
 mod event;
