@@ -1,16 +1,20 @@
 -- Journals that are runs: the empty one, one more event, and how many events there are.
-use Rattle.std.proofs.Common.{◌≡◌, ℕ, ◌*◌, ◌<◌, ◌≤◌, List, [], ◌∷◌, ◌++◌, length, sym, ap, ◌∙◌, subst, arith}
+use Rattle.std.proofs.Common.{◌≡◌, ℕ, zero, suc, ◌^◌, slice_get, Some, ◌*◌, ◌<◌, ◌≤◌, List, [], ◌∷◌, ◌++◌, length, sym, ap, ◌∙◌, subst, arith}
 use Rattle.std.proofs.lemmas.List.{length-map, map-append}
 use Rattle.snp_model.specs.declared.event.Event.{Event}
+use Rattle.snp_model.specs.declared.item.Line.{Line}
+use Rattle.snp_model.specs.declared.scenario.Actor.{Actor}
 use Rattle.snp_model.specs.declared.scenario.Scenario.{Scenario}
-use Rattle.snp_model.specs.Attempts.{attempts_of}
+use Rattle.snp_model.specs.Attempts.{actors_attempts, attempts_of, script_attempts}
 use Rattle.snp_model.specs.Journal.{actors_of}
 use Rattle.snp_model.specs.Journals.{IsRun, state_at}
 use Rattle.snp_model.specs.Opening.{opening, opening_part}
+use Rattle.snp_model.specs.Reading.{Valid}
 use Rattle.snp_model.specs.Run.{IsDefined, run_of, state_from}
 use Rattle.snp_model.specs.State.{State, IsUnfinished}
 use Rattle.snp_model.specs.Step.{event_of, after}
 use Rattle.snp_model.proofs.RoomLaws.{run_has_room, run_length}
+use Rattle.snp_model.proofs.SoundLaws.{attempts_few, valid_is_sound}
 use Rattle.snp_model.proofs.RunLaws.{run_none, state_none, defined_none, run_push, state_push, defined_push, was_unfinished, was_unfinished_before, unfinished_at}
 
 -- whose events these are, with one more and in number
@@ -72,3 +76,27 @@ unfinished_is_actor c entries actor u =
     let numbered = first.numbered in
     let within = first.within in
     (numbered, omega (arith, length-map c.actors opening_part))
+
+-- no script is long
+length_script : (lines : List Line) → length lines ≤ script_attempts lines
+unfolding script_attempts
+length_script [] = omega arith
+length_script (line ∷ lines) = omega (arith, length_script lines)
+
+script_short : (actors : List Actor) (k : ℕ) (actor : Actor) → slice_get actors k ≡ Some actor → length actor.script ≤ actors_attempts actors
+unfolding actors_attempts
+script_short [] k actor h = absurd (cc)
+script_short (first ∷ actors) zero actor h =
+    let same : first ≡ actor = cc in
+    omega (arith, length_script first.script, ap (λ (a : Actor). length a.script) same)
+script_short (first ∷ actors) (suc k) actor h = omega (arith, script_short actors k actor h)
+
+pub script_few : (c : Scenario) (k : ℕ) (actor : Actor) → Valid c → slice_get c.actors k ≡ Some actor → length actor.script < 2 ^ 32
+unfolding attempts_of
+script_few c k actor valid h = omega (arith, attempts_few c valid, script_short c.actors k actor h)
+
+-- and no scenario has many actors
+pub actors_few : (c : Scenario) → Valid c → length c.actors < 2 ^ 32
+actors_few c valid =
+    let most = (valid_is_sound c valid).actors_most in
+    omega arith

@@ -1,5 +1,5 @@
 -- Journals that are runs of a scenario: their events are those of the schedule that their actors spell. This project's own.
-use Rattle.std.specs.Prelude.{◌≡◌, ℕ, zero, suc, List, length, slice_get, Option, Some, None}
+use Rattle.std.specs.Prelude.{◌≡◌, ℕ, ◌-◌, ◌==◌, if◌then◌else◌, List, length, slice_get, Option, Some, None}
 use Rattle.snp_model.specs.declared.event.Deed.TheVariants.{Control}
 use Rattle.snp_model.specs.declared.event.Event.{Event}
 use Rattle.snp_model.specs.declared.scenario.Actor.{Actor}
@@ -28,8 +28,7 @@ items_in (Some actor) = length actor.script
 
 -- so of one by number from 1
 abbrev pub items_of : Scenario → ℕ → ℕ
-items_of scenario zero = 0
-items_of scenario (suc k) = items_in (slice_get scenario.actors k)
+items_of scenario actor = if actor == 0 then 0 else items_in (slice_get scenario.actors (actor - 1))
 
 -- what is answered of an actor that is missing or finished: an event of no run, since a skip always has an outcome
 abbrev pub idle_event : Scenario → ℕ → Event
