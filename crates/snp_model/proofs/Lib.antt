@@ -21,6 +21,7 @@ pub mod HolderLaws
 pub mod InstructionLocality
 pub mod ItemSoundLaws
 pub mod ItemUseLaws
+pub mod JournalsLaws
 pub mod LargeInstructions
 pub mod LargeItems
 pub mod LargePages

@@ -776,3 +776,7 @@ makes_keep made (line ∷ lines) next is makes = makes_keep makes.0 lines next (
 -- what some lines can make is sound
 pub valid_is_sound : (c : Scenario) → Valid c → IsSound c
 valid_is_sound c valid = makes_keep nothing valid.0 (closed c) tt valid.1
+
+-- so it has few attempts
+pub attempts_few : (c : Scenario) → Valid c → attempts_of c ≤ 8192
+attempts_few c valid = (valid_is_sound c valid).attempts_most

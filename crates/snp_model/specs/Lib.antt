@@ -26,6 +26,7 @@ pub mod InstructionStep
 pub mod Invariant
 pub mod ItemLines
 pub mod Journal
+pub mod Journals
 pub mod KeptLocks
 pub mod Limits
 pub mod Lines

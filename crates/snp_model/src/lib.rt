@@ -2,6 +2,7 @@
 #![tactic(auto)]
 
 mod access;
+mod attempts;
 mod command;
 mod entry;
 mod event;
@@ -11,6 +12,7 @@ mod item;
 mod listed;
 mod reading;
 mod report;
+mod same;
 mod scenario;
 mod standards;
 mod walk;

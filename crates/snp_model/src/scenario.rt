@@ -1,4 +1,7 @@
+ghost use Rattle.std.specs.Prelude.{◌≡◌, IfOk};
+
 use crate::{Line, Listed, PageSize};
+use std::alloc::{AllocError, Global};
 
 /// How a guest processor translates virtual addresses.
 #[derive(Clone, Copy, Debug, PartialEq, Eq)]
@@ -104,4 +107,44 @@ pub struct Scenario {
     pub actors: Listed<Actor>,
     /// The schedule, whose counts add up to 262,144 at most.
     pub order: Listed<Turn>,
+}
+
+impl Actor {
+    /// A copy.
+    pub fn copy(&self, alloc: Global) -> Result<Actor, AllocError>
+        ensures { IfOk result (λ copy. copy ≡ self.now) }
+    {
+        Ok(Actor {
+            role: self.role,
+            script: Listed::from_slice(alloc, self.script.as_slice())?,
+        })
+    }
+}
+
+impl Scenario {
+    /// A copy.
+    pub fn copy(&self, alloc: Global) -> Result<Scenario, AllocError>
+        ensures { IfOk result (λ copy. copy ≡ self.now) }
+    {
+        Ok(Scenario {
+            version: self.version,
+            regions: self.regions,
+            guests: Listed::from_slice(alloc, self.guests.as_slice())?,
+            pages: Listed::from_slice(alloc, self.pages.as_slice())?,
+            words: Listed::from_slice(alloc, self.words.as_slice())?,
+            actors: copy_actors(alloc, self.actors.as_slice())?,
+            order: Listed::from_slice(alloc, self.order.as_slice())?,
+        })
+    }
+}
+
+// Copies of actors.
+fn copy_actors(alloc: Global, actors: &[Actor]) -> Result<Listed<Actor>, AllocError>
+    ensures { IfOk result (λ copies. copies ≡ actors.now) }
+{
+    let mut copies = Vec::with_capacity(alloc, actors.len())?;
+    'actors: for actor in actors {
+        copies.push_reserved(actor.copy(alloc)?);
+    }
+    Ok(Listed::from_vec(copies))
 }

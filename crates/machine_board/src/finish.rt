@@ -1,0 +1,32 @@
+ghost use Rattle.std.specs.Prelude.{◌≡◌, ℕ};
+ghost use Rattle.machine_board.specs.Boards.{board_state};
+ghost use Rattle.snp_model.specs.Journals.{IsComplete};
+ghost use Rattle.snp_model.specs.State.{IsUnfinished};
+
+use crate::board::Board;
+
+impl Board {
+    /// Steps every actor that is unfinished, upwards, until all are finished. Takes no memory.
+    #[tactic(auto, using(snp_model::proofs::JournalsLaws::actors_few, snp_model::proofs::JournalsLaws::unfinished_is_actor))]
+    pub fn finish(&mut self)
+        ensures scenario { self.new.scenario ≡ self.old.scenario }
+        ensures complete { IsComplete self.new.scenario self.new.list }
+    {
+        let count = self.scenario().actors.len() as u32;
+        'actors: for actor in 1..=count {
+            finish_actor(self, actor);
+        }
+    }
+}
+
+// Steps an actor until it is finished.
+#[tactic(auto, using(snp_model::proofs::JournalsLaws::unfinished_earlier))]
+fn finish_actor(board: &mut Board, actor: u32)
+    ensures scenario { board.new.scenario ≡ board.old.scenario }
+    ensures finished { IsUnfinished (board_state board.new) actor → ⊥ }
+    ensures others { (other : ℕ) → IsUnfinished (board_state board.new) other → IsUnfinished (board_state board.old) other }
+{
+    'events: while !board.finished(actor) {
+        board.step(actor);
+    }
+}

@@ -1,0 +1,9 @@
+//! A machine with the journal of what its actors did, for one thread and for several.
+#![tactic(auto)]
+
+mod board;
+mod finish;
+mod locked;
+
+pub use board::Board;
+pub use locked::{BoardPass, LockedBoard};
