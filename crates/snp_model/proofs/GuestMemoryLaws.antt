@@ -21,7 +21,7 @@ use Rattle.snp_model.specs.Opening.{asid_of, words_from, opening, opening_part}
 use Rattle.snp_model.specs.Run.{state_from, state_after, IsDefinedFrom, IsDefined}
 use Rattle.snp_model.specs.Bounds.{IsRole, IsItemOf, IsLineOf}
 use Rattle.snp_model.specs.Sound.{Pairwise, IsSound, AsidsDiffer, IsPage, GpnsDiffer, IsActor}
-use Rattle.snp_model.specs.GuestMemory.{Memory, next_use, used, opening_memory, memory_from, memory_after, IsLegalFrom, IsLegal, AreLegal}
+use Rattle.snp_model.specs.GuestMemory.{Memory, next_use, used, opening_memory, memory_from, memory_after, IsLegalFrom, IsLegal}
 use Rattle.snp_model.specs.Live.{Archive, vault_of}
 use Rattle.snp_model.specs.Holders.{Core}
 use Rattle.snp_model.proofs.CoreLaws.{AreFit, frames_core}

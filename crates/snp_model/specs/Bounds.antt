@@ -39,11 +39,11 @@ IsRole frames guests Firmware = ⊥
 abbrev pub IsSkip : ℕ → Type 0
 IsSkip count = (1 ≤ count) × (count ≤ 8192)
 
--- an item of a guest processor; an access has any address that is a multiple of 8
+-- an item of a guest processor; an access has any address that is a multiple of 8, and PVALIDATE and RMPADJUST have any address at all
 abbrev pub IsCpuItem : Item → Type 0
 IsCpuItem (items.Access address op) = address % 8 ≡ 0
-IsCpuItem (items.Pvalidate address size validate) = ⊥
-IsCpuItem (items.Rmpadjust address size target mask vmsa) = ⊥
+IsCpuItem (items.Pvalidate address size validate) = Unit {0}
+IsCpuItem (items.Rmpadjust address size target mask vmsa) = (target < 256) × (mask < 256)
 IsCpuItem (items.Rmpupdate update) = ⊥
 IsCpuItem (items.Psmash frame) = ⊥
 IsCpuItem (items.Firmware command) = ⊥

@@ -175,7 +175,3 @@ memory_after scenario schedule guest = memory_from guest (opening scenario) (ope
 -- a guest's private accesses are one legal history of a memory of its own
 abbrev pub IsLegal : Scenario → List ℕ → ℕ → Type 0
 IsLegal scenario schedule guest = IsLegalFrom guest (opening scenario) (opening_memory scenario guest) schedule
-
--- so for each declared guest
-abbrev pub AreLegal : Scenario → List ℕ → Type 0
-AreLegal scenario schedule = (guest : ℕ) → 0 < guest → guest ≤ length scenario.guests → IsLegal scenario schedule guest

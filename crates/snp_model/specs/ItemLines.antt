@@ -11,7 +11,7 @@ use Rattle.snp_model.specs.declared.item.Op.TheVariants.{Load, Store, Swap, Comp
 use Rattle.snp_model.specs.declared.item.SkipTest.{SkipTest}
 use Rattle.snp_model.specs.declared.item.SkipTest.TheVariants.{Good, Bad, Value}
 use Rattle.snp_model.specs.declared.item.Item.{Item}
-use Rattle.snp_model.specs.declared.item.Item.TheVariants.{Access, Psmash, Rmpupdate, Skip}
+use Rattle.snp_model.specs.declared.item.Item.TheVariants.{Access, Psmash, Pvalidate, Rmpadjust, Rmpupdate, Skip}
 use Rattle.snp_model.specs.declared.item.Update.{Update}
 use Rattle.snp_model.specs.Lines.{◌>>=◌, ◌>>◌, words_of, word, is_plain, is_row, fixed, number, ranged, below, multiple}
 
@@ -149,6 +149,39 @@ smash_row ws = do
   retries ← retries_word ws 2
   Ok (record { item = Psmash frame; retries = retries })
 
+-- `pvalidate VA S B`, `pvalidate VA S B retry N`
+unfoldable pub validate_row : List (List ℕ) → Result Line Reason
+validate_row ws = do
+  address ← number (word ws 1)
+  size ← size_word (word ws 2)
+  validate ← flag_word (word ws 3)
+  retries ← retries_word ws 4
+  Ok (record { item = Pvalidate address size validate; retries = retries })
+
+-- `VA S T M W`: the operands of RMPADJUST
+unfoldable pub adjust_operands : List (List ℕ) → Result Item Reason
+adjust_operands ws = do
+  address ← number (word ws 1)
+  size ← size_word (word ws 2)
+  target ← below 256 (word ws 3)
+  mask ← below 256 (word ws 4)
+  vmsa ← flag_word (word ws 5)
+  Ok (Rmpadjust address size target mask vmsa)
+
+-- `rmpadjust VA S T M W`, `rmpadjust VA S T M W retry N`
+unfoldable pub adjust_row : List (List ℕ) → Result Line Reason
+adjust_row ws = do
+  item ← adjust_operands ws
+  retries ← retries_word ws 6
+  Ok (record { item = item; retries = retries })
+
+-- the items of a guest processor
+unfoldable pub cpu_item : Role → ℕ → List (List ℕ) → Result Line Reason
+cpu_item role frames ws =
+    if is_retry_row ws (codes "pvalidate") 4 then validate_row ws
+    else if is_retry_row ws (codes "rmpadjust") 6 then adjust_row ws
+    else access_item role frames ws
+
 -- the items of a hypervisor processor
 unfoldable pub host_item : ℕ → List (List ℕ) → Result Line Reason
 host_item frames ws =
@@ -158,7 +191,7 @@ host_item frames ws =
 
 -- the words of an item of an actor with this role
 abbrev pub item_words : Role → ℕ → List (List ℕ) → Result Line Reason
-item_words (Cpu guest vmpl npt paging) frames ws = access_item (Cpu guest vmpl npt paging) frames ws
+item_words (Cpu guest vmpl npt paging) frames ws = cpu_item (Cpu guest vmpl npt paging) frames ws
 item_words Host frames ws = host_item frames ws
 item_words Firmware frames ws = skip_item ws
 

@@ -1,5 +1,5 @@
 -- What is asked of a run so that a guest's private accesses are one legal history: that the guest is disciplined, and that no ciphertext meets the tag of another (this project's own).
-use Rattle.std.specs.Prelude.{◌≡◌, ℕ, ◌==◌, true, ◌&&◌, if◌then◌else◌, List, [], ◌∷◌, Option, Some, None}
+use Rattle.std.specs.Prelude.{◌≡◌, ℕ, ◌<◌, ◌≤◌, ◌==◌, true, ◌&&◌, if◌then◌else◌, List, [], ◌∷◌, length, Option, Some, None}
 use Rattle.std.specs.FinMap.{get}
 use Rattle.snp_model.specs.declared.command.Command.TheVariants as commands
 use Rattle.snp_model.specs.declared.event.Deed.{Deed}
@@ -13,7 +13,7 @@ use Rattle.snp_model.specs.declared.scenario.Role.{Role}
 use Rattle.snp_model.specs.declared.scenario.Role.TheVariants.{Cpu, Host, Firmware}
 use Rattle.snp_model.specs.declared.scenario.Scenario.{Scenario}
 use Rattle.snp_model.specs.Facts.{frames_in}
-use Rattle.snp_model.specs.GuestMemory.{Memory, next_use, used, opening_memory}
+use Rattle.snp_model.specs.GuestMemory.{Memory, IsLegal, next_use, used, opening_memory}
 use Rattle.snp_model.specs.Live.{Archived, Archive}
 use Rattle.snp_model.specs.Locks.{in_range}
 use Rattle.snp_model.specs.Opening.{opening}
@@ -65,6 +65,11 @@ IsDisciplinedFrom guest m memory (actor ∷ actors) =
 -- the guest is disciplined in a schedule of a scenario: it validates and launches no page while it holds it
 abbrev pub IsDisciplined : Scenario → List ℕ → ℕ → Type 0
 IsDisciplined scenario schedule guest = IsDisciplinedFrom guest (opening scenario) (opening_memory scenario guest) schedule
+
+-- the private accesses of each declared guest that is disciplined are one legal history of a memory of its own, whatever the other guests are
+abbrev pub AreLegal : Scenario → List ℕ → Type 0
+AreLegal scenario schedule =
+    (guest : ℕ) → 0 < guest → guest ≤ length scenario.guests → IsDisciplined scenario schedule guest → IsLegal scenario schedule guest
 
 -- these are the words of a ciphertext that was archived; where nothing was, they aren't
 abbrev pub IsCipherOf : Option Archived → List ℕ → Type 0
