@@ -1,5 +1,6 @@
--- That a board keeps what its type says: as it is built, and by each event.
-use Rattle.std.proofs.Common.{◌≡◌, ℕ, ◌==◌, ◌-◌, ◌*◌, ◌^◌, ◌<◌, ◌≤◌, Bool, true, false, ◌++◌, List, [], ◌∷◌, length, get_or, Some, refl, sym, ap, ◌∙◌, subst}
+-- That a board keeps what its type says, as it is built and by each event, and that its journal goes on.
+use Rattle.std.proofs.Common.{◌≡◌, ℕ, ◌==◌, ◌-◌, ◌*◌, ◌^◌, ◌<◌, ◌≤◌, Bool, true, false, ◌++◌, List, [], ◌∷◌, length, get_or, Some, refl, sym, ap, ◌∙◌, subst, append_assoc}
+use Rattle.std.proofs.lemmas.List.{append-nil}
 use Rattle.std.proofs.lemmas.Option.{slice_get-get_or, slice_get_past}
 use Rattle.std.specs.Bool.{OnFalse}
 use Rattle.snp_model.specs.declared.event.Event.{Event}
@@ -13,7 +14,7 @@ use Rattle.snp_model.specs.Reading.{Valid}
 use Rattle.snp_model.specs.State.{State, IsUnfinished}
 use Rattle.snp_model.specs.Step.{event_of, after}
 use Rattle.snp_model.proofs.JournalsLaws.{script_few, is_run_none, is_run_push, is_run_room, state_at_none, state_at_push}
-use Rattle.machine_board.specs.Boards.{IsBoard}
+use Rattle.machine_board.specs.Boards.{GoesOn, IsBoard}
 
 -- at the opening
 pub board_opens : (c : Scenario) (m : State) (attempts : ℕ) → Valid c → m ≡ opening c → attempts ≡ attempts_of c → IsBoard c m (record { list = []; room = 32 * attempts })
@@ -52,3 +53,16 @@ items_none c actor some past = rw (some, slice_get_past c.actors (actor - 1) pas
 
 pub items_few : (c : Scenario) (actor : ℕ) (there : Actor) → Valid c → actor - 1 < length c.actors → there ≡ get_or c.actors (actor - 1) there → length there.script < 2 ^ 32
 items_few c actor there valid within is = script_few c (actor - 1) there valid (slice_get-get_or c.actors (actor - 1) there within ∙ ap Some (sym is))
+
+-- a journal goes on by no event, by one more, and by those of two runs
+pub goes_on_none : (entries : List (ℕ × Event)) → GoesOn entries entries
+unfolding GoesOn
+goes_on_none entries = ([], sym (append-nil entries))
+
+pub goes_on_push : (first now new : List (ℕ × Event)) (entry : ℕ × Event) → GoesOn first now → new ≡ now ++ entry ∷ [] → GoesOn first new
+unfolding GoesOn
+goes_on_push first now new entry on adds = (on.0 ++ entry ∷ [], adds ∙ ap (λ (l : List (ℕ × Event)). l ++ entry ∷ []) on.1 ∙ append_assoc first on.0 (entry ∷ []))
+
+pub goes_on_both : (first now new : List (ℕ × Event)) → GoesOn first now → GoesOn now new → GoesOn first new
+unfolding GoesOn
+goes_on_both first now new one two = (one.0 ++ two.0, two.1 ∙ ap (λ (l : List (ℕ × Event)). l ++ two.0) one.1 ∙ append_assoc first one.0 two.0)

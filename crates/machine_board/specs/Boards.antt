@@ -1,5 +1,5 @@
 -- What contracts see of a board, and what its type keeps. This project's own.
-use Rattle.std.specs.Prelude.{◌≡◌, ℕ, ◌*◌, List}
+use Rattle.std.specs.Prelude.{◌≡◌, ℕ, ◌*◌, ◌++◌, List}
 use Rattle.snp_model.specs.declared.event.Event.{Event}
 use Rattle.snp_model.specs.declared.scenario.Scenario.{Scenario}
 use Rattle.snp_model.specs.Attempts.{attempts_of}
@@ -23,3 +23,7 @@ pub record IsBoard (scenario : Scenario) (m : State) (journal : JournalImage) : 
   pub run : IsRun scenario journal.list
   pub machine : m ≡ state_at scenario journal.list
   pub room : journal.room ≡ 32 * attempts_of scenario
+
+-- the later events are the earlier ones with more after them
+unfoldable pub GoesOn : List (ℕ × Event) → List (ℕ × Event) → Type 0
+GoesOn earlier later = (more : List (ℕ × Event)) × (later ≡ earlier ++ more)

@@ -52,7 +52,9 @@ impl Board {
     /// Makes one event of an actor, numbered from 1, and takes it down. Takes no memory.
     pub fn step(&mut self, actor: u32) -> Event
         requires { IsUnfinished (board_state self.old) actor }
+        ensures step { Step (board_state self.old) actor (board_state self.new) result }
         ensures event { result ≡ event_of (board_state self.old) actor }
+        ensures after { board_state self.new ≡ after (board_state self.old) actor }
         ensures list { self.new.list ≡ self.old.list ++ (actor, result) ∷ [] }
         ensures scenario { self.new.scenario ≡ self.old.scenario }
     {

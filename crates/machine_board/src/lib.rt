@@ -4,6 +4,8 @@
 mod board;
 mod finish;
 mod locked;
+#[cfg(test)]
+mod tests;
 
 pub use board::Board;
 pub use locked::{BoardPass, LockedBoard};
