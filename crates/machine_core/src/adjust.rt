@@ -1,4 +1,4 @@
-ghost use Rattle.std.specs.Prelude.{◌≡◌, ◌<◌, ◌^◌, length, [], None, Some, IsSome};
+ghost use Rattle.std.specs.Prelude.{◌≡◌, ◌%◌, ◌<◌, ◌^◌, length, [], None, Some, IsSome};
 ghost use Rattle.snp_model.specs.declared.event.Deed.TheVariants.{Commit};
 ghost use Rattle.snp_model.specs.declared.event.Outcome.TheVariants.{Status};
 ghost use Rattle.snp_model.specs.Accesses.{IsPlace};
@@ -140,7 +140,7 @@ fn lock_page<P: Parts>(
     let bay = parts.bay_mut(frame / 512);
     let entry = bay.rmp.effective(place.slot);
     match adjust_lock(&mut bay.rmp, place, ask.size, ask.mask, ask.vmsa, number) {
-        Err(refusal) => *shown = Shown::refused(u64::from(frame), refusal),
+        Err(refusal) => *shown = Shown::refused(frame as u64, refusal),
         Ok(()) => *shown = Shown::locked(page_taken(frame, entry.size)),
     }
 }
