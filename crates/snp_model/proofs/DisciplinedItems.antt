@@ -29,10 +29,6 @@ abbrev pub IsNoCommand : Role → Item → Type 0
 IsNoCommand Firmware (items.Firmware command) = ⊥
 IsNoCommand role item = Unit {0}
 
-pub proved_no_command : (role : Role) (item : Item) → IsProved role item → IsNoCommand role item
-proved_no_command Firmware (items.Firmware command) known = known
-proved_no_command role item known = tt
-
 -- such an item is a PVALIDATE or an RMPADJUST of a guest's processor, or one of which it is proved for any guest
 by_item : (P : Role → Item → Type 0)
     → ((owner vmpl npt : ℕ) (paging : Paging) (address : ℕ) (size : PageSize) (validate : Bool) → P (Cpu owner vmpl npt paging) (items.Pvalidate address size validate))
