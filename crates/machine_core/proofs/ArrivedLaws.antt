@@ -5,6 +5,7 @@ use Rattle.std.specs.Option.{option_map}
 use Rattle.snp_model.specs.declared.entry.PageSize.{PageSize}
 use Rattle.snp_model.specs.declared.event.Deed.{Deed}
 use Rattle.snp_model.specs.declared.event.Deed.TheVariants as deeds
+use Rattle.snp_model.specs.declared.event.Outcome.{Outcome}
 use Rattle.snp_model.specs.declared.event.Outcome.TheVariants as outcomes
 use Rattle.snp_model.specs.declared.event.Refusal.{Refusal}
 use Rattle.snp_model.specs.declared.scenario.GuestSpec.{GuestSpec}
@@ -17,6 +18,7 @@ use Rattle.snp_model.specs.HeldLocks.{AreInstructionLocks, IsOneLock, IsWalkedLo
 use Rattle.snp_model.specs.InstructionStep.{adjust_begin, adjust_move, is_page_address, page_lookup, page_place, validate_move}
 use Rattle.snp_model.specs.Locks.{page_lock}
 use Rattle.snp_model.specs.NestedWalk.{walk_from}
+use Rattle.snp_model.specs.OpenAttempts.{IsLockingAttempt}
 use Rattle.snp_model.specs.Opening.{asid_of}
 use Rattle.snp_model.specs.State.{ActorPart, Contents, PageLock, Standing, nothing_taken}
 use Rattle.snp_model.specs.Touches.{walk_touches, with_locks}
@@ -26,6 +28,7 @@ use Rattle.snp_model.proofs.RangeLaws.{also_touched}
 use Rattle.snp_model.proofs.TestedLaws.{let_through}
 use Rattle.machine_core.specs.declared.cpu.Arrived.{Arrived}
 use Rattle.machine_core.specs.declared.shown.Shown.{Shown}
+use Rattle.machine_core.specs.Actors.{IsBegun}
 use Rattle.machine_core.specs.Bays.{HasTouched, Stock, contents_of, pages_of, view_on}
 use Rattle.machine_core.specs.Moves.{lock_shown, move_by, standing_by}
 use Rattle.machine_core.specs.Ranges.{IsLockOfPage, page_refused}
@@ -123,3 +126,7 @@ pub adjust_admitted : (cpu : Processor) (address : ℕ) (size : PageSize) (targe
 unfolding adjust_begin
 adjust_admitted cpu address size target mask none =
     no_status (adjust_input cpu.vmpl target mask) (let_through (not (is_page_address size address)) (outcomes.Status 1) (option_map outcomes.Status (adjust_input cpu.vmpl target mask)) none).after_it
+
+pub attempt_admitted : (frames : ℕ) (cpu : Processor) (lookup : Lookup) (refusal : Option Outcome) (locks : List PageLock) (made : List Deed) → IsLockingAttempt frames cpu lookup refusal locks made → IsBegun made → refusal ≡ None
+attempt_admitted frames cpu lookup refusal locks [] attempt begun = absurd (begun refl)
+attempt_admitted frames cpu lookup refusal locks (deed ∷ others) attempt begun = attempt.admitted (omega arith)

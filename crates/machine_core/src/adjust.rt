@@ -67,7 +67,9 @@ pub fn adjust_event<P: Parts>(
         lookup: page_lookup(ask.address),
     };
     let refusal = adjust_begin(cpu, ask);
-    match walk(parts, frames, guests, actor, &walker, refusal, stands, shown) {
+    match walk(
+        parts, frames, guests, actor, &walker, refusal, stands, shown,
+    ) {
         None => {}
         Some(at) => adjust_page(parts, number, guests, actor, cpu, &at, ask, shown),
     }

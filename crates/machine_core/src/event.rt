@@ -108,7 +108,7 @@ fn next_event<P: Parts>(
 }
 
 // The next event of a guest's processor.
-#[tactic(auto, using(crate::proofs::HeldLaws::none_relocked), unfolding(snp_model::specs::Step::item_move, snp_model::specs::Touches::item_touches, snp_model::specs::HeldLocks::AreItemLocks))]
+#[tactic(auto, using(crate::proofs::HeldLaws::none_relocked, crate::proofs::ArrivedLaws::attempt_admitted), unfolding(snp_model::specs::Step::item_move, snp_model::specs::Touches::item_touches, snp_model::specs::HeldLocks::AreItemLocks, snp_model::specs::OpenAttempts::IsAttempt))]
 fn cpu_event<P: Parts>(
     parts: &mut P,
     number: u32,

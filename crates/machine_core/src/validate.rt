@@ -63,7 +63,9 @@ pub fn validate_event<P: Parts>(
         lookup: page_lookup(ask.address),
     };
     let refusal = validate_begin(cpu, ask);
-    match walk(parts, frames, guests, actor, &walker, refusal, stands, shown) {
+    match walk(
+        parts, frames, guests, actor, &walker, refusal, stands, shown,
+    ) {
         None => {}
         Some(at) => validate_page(parts, number, guests, actor, cpu, &at, ask, shown),
     }
@@ -159,12 +161,7 @@ fn commit_page<P: Parts>(
 {
     let frame = at.frame;
     let bay = parts.bay_mut(frame / 512);
-    let carry = validate_commit(
-        &mut bay.rmp,
-        frame as usize % 512,
-        ask.validate,
-        number,
-    );
+    let carry = validate_commit(&mut bay.rmp, frame as usize % 512, ask.validate, number);
     let deed = Deed::Commit {
         frame,
         gpn: at.gpn,

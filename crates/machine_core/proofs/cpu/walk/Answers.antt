@@ -36,9 +36,11 @@ returns-in-Data-clause-page g c =
     let stock = g.P.Parts.stock c.args.parts.now in
     let need : c.walk_need.result ≡ need_after c.args.frames (processor_of walker.cpu) walker.lookup c.args.actor.now.deeds =
     c.walk_need.ensures.need
-    ∙ (λ i. walk_need c.args.frames walker.cpu.npt walker.lookup (c.requires.stands (λ none. grind (arith, common_steps)) i) (c.nested_words.ensures i)) in
-    (grind (arith, common_steps), data_has c.in-Data.gpn c.in-Data.private c.in-Data.frame c.in-Data.size _ stock (sym need ∙ c.in-Data.is)
-    (need_has c.args.frames (processor_of walker.cpu) walker.lookup c.args.actor.now.deeds stock (λ none. grind (arith, common_steps)) c.requires.has))
+    ∙ (λ i. walk_need c.args.frames walker.cpu.npt walker.lookup (c.requires.stands (λ none. grind (arith, common_steps)) i) (c.nested_words.ensures i)) in (
+      grind (arith, common_steps),
+      data_has c.in-Data.gpn c.in-Data.private c.in-Data.frame c.in-Data.size _ stock (sym need ∙ c.in-Data.is)
+          (need_has c.args.frames (processor_of walker.cpu) walker.lookup c.args.actor.now.deeds stock (λ none. grind (arith, common_steps)) c.requires.has),
+    )
 
 pub returns-then-is_empty-clause-moves : goal.returns-then-is_empty-clause-moves
 returns-then-is_empty-clause-moves g c =
