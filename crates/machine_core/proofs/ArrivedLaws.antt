@@ -1,19 +1,15 @@
 -- The page to which the walks of PVALIDATE and RMPADJUST have come, and what an attempt of theirs has locked.
-use Rattle.std.proofs.Common.{◌≡◌, ℕ, ◌<◌, nat_lt, Bool, true, false, not, List, [], ◌∷◌, length, Option, None, Some, refl, sym, ap, ◌∙◌, subst, arith}
-use Rattle.std.proofs.lemmas.Bool.{true≢false}
+use Rattle.std.proofs.Common.{◌≡◌, ℕ, Bool, not, List, [], ◌∷◌, length, Option, None, Some, refl, ap, ◌∙◌, arith}
 use Rattle.std.specs.Option.{option_map}
 use Rattle.snp_model.specs.declared.entry.PageSize.{PageSize}
 use Rattle.snp_model.specs.declared.event.Deed.{Deed}
 use Rattle.snp_model.specs.declared.event.Deed.TheVariants as deeds
 use Rattle.snp_model.specs.declared.event.Outcome.{Outcome}
 use Rattle.snp_model.specs.declared.event.Outcome.TheVariants as outcomes
-use Rattle.snp_model.specs.declared.event.Refusal.{Refusal}
 use Rattle.snp_model.specs.declared.scenario.GuestSpec.{GuestSpec}
 use Rattle.snp_model.specs.declared.walk.GuestEnd.{GuestEnd}
 use Rattle.snp_model.specs.declared.walk.GuestEnd.TheVariants as guest_ends
 use Rattle.snp_model.specs.declared.walk.Lookup.{Lookup}
-use Rattle.snp_model.specs.declared.walk.Need.{Need}
-use Rattle.snp_model.specs.declared.walk.Need.TheVariants as needs
 use Rattle.snp_model.specs.HeldLocks.{AreInstructionLocks, IsOneLock, IsWalkedLock, PageTest}
 use Rattle.snp_model.specs.InstructionStep.{adjust_begin, adjust_move, is_page_address, page_lookup, page_place, validate_move}
 use Rattle.snp_model.specs.Locks.{page_lock}
