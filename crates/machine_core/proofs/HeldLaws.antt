@@ -1,5 +1,5 @@
 -- What an open attempt has locked, by the item of its actor, and what an event that takes no lock leaves of the locks.
-use Rattle.std.proofs.Common.{◌≡◌, ℕ, suc, ◌/◌, ◌<◌, nat_lt, Bool, true, false, ◌||◌, List, [], ◌∷◌, length, Option, None, Some, Result, Ok, Err, refl, sym, ap, ◌∙◌, subst, arith}
+use Rattle.std.proofs.Common.{◌≡◌, ℕ, suc, ◌/◌, nat_lt, Bool, true, false, ◌||◌, List, [], ◌∷◌, length, Option, None, Some, Result, Ok, Err, refl, sym, ap, ◌∙◌, arith}
 use Rattle.std.proofs.lemmas.Bool.{true≢false}
 use Rattle.std.proofs.lemmas.Bool.Decides.{nat_tests}
 use Rattle.std.specs.List.{list_any}
@@ -7,26 +7,17 @@ use Rattle.snp_model.specs.declared.event.Deed.{Deed}
 use Rattle.snp_model.specs.declared.event.Deed.TheVariants as deeds
 use Rattle.snp_model.specs.declared.event.Outcome.{Outcome}
 use Rattle.snp_model.specs.declared.event.Refusal.{Refusal}
-use Rattle.snp_model.specs.declared.item.Item.{Item}
-use Rattle.snp_model.specs.declared.item.Item.TheVariants as items
 use Rattle.snp_model.specs.declared.scenario.GuestSpec.{GuestSpec}
-use Rattle.snp_model.specs.declared.scenario.Paging.{Paging}
-use Rattle.snp_model.specs.declared.scenario.Role.{Role}
-use Rattle.snp_model.specs.declared.scenario.Role.TheVariants.{Cpu}
-use Rattle.snp_model.specs.Bounds.{IsCpuItem, IsItemOf}
 use Rattle.snp_model.specs.Entries.{refusal_answer}
-use Rattle.snp_model.specs.HeldLocks.{AreInstructionLocks, AreItemLocks, IsOneLock}
-use Rattle.snp_model.specs.KeptLocks.{IsTestedAt, OwnsLocks, relocked}
+use Rattle.snp_model.specs.HeldLocks.{AreInstructionLocks, IsOneLock}
+use Rattle.snp_model.specs.KeptLocks.{OwnsLocks, relocked}
 use Rattle.snp_model.specs.Locks.{covers, locks_frame}
 use Rattle.snp_model.specs.InstructionStep.{instruction_lock}
 use Rattle.snp_model.specs.Moves.{Move, lock_move, memory_move}
 use Rattle.snp_model.specs.Opening.{opening_contexts}
 use Rattle.snp_model.specs.State.{ActorPart, Contents, PageLock, Pages, Standing, View, nothing_taken}
-use Rattle.snp_model.specs.Ready.{IsReady}
-use Rattle.snp_model.specs.Step.{line_at}
 use Rattle.snp_model.specs.Touches.{frame_touched, instruction_touches}
 use Rattle.snp_model.proofs.RangeLaws.{also_touched}
-use Rattle.snp_model.proofs.ReadyLaws.{ready_line}
 use Rattle.rmp_update.specs.Regions.{region_answer}
 use Rattle.machine_core.specs.declared.shown.Shown.{Shown}
 use Rattle.machine_core.specs.declared.taken_lock.TakenLock.{TakenLock}
@@ -35,27 +26,7 @@ use Rattle.machine_core.specs.Moves.{lock_shown, locks_by, locks_left, move_by, 
 use Rattle.machine_core.specs.Ranges.{HoldsLock, HoldsNone}
 use Rattle.machine_core.proofs.RangeLaws.{relocked_none}
 
--- an item of a guest's processor has locked nothing
-pub cpu_rests : (frames : ℕ) (guests : List GuestSpec) (contents : Contents) (guest vmpl npt : ℕ) (paging : Paging) (item : Item) (made : List Deed) (standing : Standing)
-    → IsCpuItem item → AreItemLocks frames guests contents (Cpu guest vmpl npt paging) item made standing → standing ≡ nothing_taken
-unfolding AreItemLocks
-cpu_rests frames guests contents guest vmpl npt paging (items.Access address op) made standing is_item locks = locks
-cpu_rests frames guests contents guest vmpl npt paging (items.Pvalidate address size validate) made standing is_item locks = absurd is_item
-cpu_rests frames guests contents guest vmpl npt paging (items.Rmpadjust address size target mask vmsa) made standing is_item locks = absurd is_item
-cpu_rests frames guests contents guest vmpl npt paging (items.Rmpupdate update) made standing is_item locks = locks
-cpu_rests frames guests contents guest vmpl npt paging (items.Psmash frame) made standing is_item locks = locks
-cpu_rests frames guests contents guest vmpl npt paging (items.Firmware command) made standing is_item locks = locks
-cpu_rests frames guests contents guest vmpl npt paging (items.Skip count test) made standing is_item locks = locks
-
--- so has the open attempt of an actor that is such a processor
-pub cpu_part_rests : (frames : ℕ) (guests : List GuestSpec) (contents : Contents) (guest vmpl npt : ℕ) (paging : Paging) (part : ActorPart)
-    → part.role ≡ Cpu guest vmpl npt paging → IsReady frames guests part → part.item < length part.script → IsTestedAt frames guests contents part → part.standing ≡ nothing_taken
-cpu_part_rests frames guests contents guest vmpl npt paging part role_is ready unfinished tested =
-    let item = (line_at part.script part.item).item in
-    let is_item = subst (λ (r : Role). IsItemOf frames r item) role_is (ready_line frames guests part ready unfinished).item in
-    cpu_rests frames guests contents guest vmpl npt paging item part.deeds part.standing is_item (subst (λ (r : Role). AreItemLocks frames guests contents r item part.deeds part.standing) role_is tested)
-
--- so its actor holds no lock
+-- an actor that has locked nothing holds no lock
 holds_none : (actor : ℕ) (part : ActorPart) (stock : Stock) → OwnsLocks actor part (holders_of stock.bays) → part.standing ≡ nothing_taken → HoldsNone actor stock
 holds_none actor part stock owns none frame held = true≢false (sym (owns.only frame held) ∙ ap (λ (s : Standing). locks_frame frame (record part { standing = s })) none)
 

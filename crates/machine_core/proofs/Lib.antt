@@ -1,10 +1,12 @@
 pub mod ActorLaws
+pub mod ArrivedLaws
 pub mod BaysLaws
 pub mod BuildingLaws
 pub mod CpuLaws
 pub mod HeldLaws
 pub mod MachineLaws
 pub mod OpeningLaws
+pub mod PageLaws
 pub mod RangeLaws
 pub mod SeeingLaws
 pub mod SkipLaws

@@ -1,7 +1,9 @@
 -- Which regions an event needs.
-use Rattle.std.proofs.Common.{◌≡◌, ℕ, ◌+◌, ◌-◌, ◌*◌, ◌/◌, ◌%◌, ◌<◌, ◌≤◌, Bool, true, false, eqb, List, [], ◌∷◌, ◌++◌, length, None, refl, ap, ◌∙◌, subst, arith}
+use Rattle.std.proofs.Common.{◌≡◌, ◌⊎◌, inl, inr, ⊎_elim, ℕ, ◌+◌, ◌-◌, ◌*◌, ◌/◌, ◌%◌, ◌<◌, ◌≤◌, Bool, true, false, ◌||◌, eqb, List, [], ◌∷◌, ◌++◌, length, None, refl, sym, ap, ◌∙◌, subst, arith}
 use Rattle.std.specs.List.{list_any, range_with_len}
+use Rattle.std.proofs.lemmas.Bool.{true≢false}
 use Rattle.std.proofs.lemmas.Bool.Decides.{nat_tests}
+use Rattle.std.proofs.lemmas.List.Folds.{list_any-append}
 use Rattle.snp_model.specs.declared.entry.PageSize.{PageSize}
 use Rattle.snp_model.specs.declared.entry.PageSize.TheVariants.{Small, Large}
 use Rattle.snp_model.specs.declared.event.Deed.{Deed}
@@ -21,22 +23,23 @@ use Rattle.snp_model.specs.declared.walk.NestedEnd.{NestedEnd}
 use Rattle.snp_model.specs.declared.walk.NestedEnd.TheVariants as ends
 use Rattle.snp_model.specs.Bounds.{IsItemOf, IsRole}
 use Rattle.snp_model.specs.Facts.{frames_in}
-use Rattle.snp_model.specs.HeldLocks.{AreItemLocks, IsOneLock, IsSmashLock, IsUpdateLock}
-use Rattle.snp_model.specs.InstructionStep.{facts_of}
+use Rattle.snp_model.specs.HeldLocks.{AreInstructionLocks, AreItemLocks, IsOneLock, IsSmashLock, IsUpdateLock, IsWalkedLock, PageTest, adjust_test, validate_test}
+use Rattle.snp_model.specs.InstructionStep.{facts_of, page_lookup}
 use Rattle.snp_model.specs.KeptLocks.{IsTestedAt}
 use Rattle.snp_model.specs.Locks.{page_lock, range_lock}
 use Rattle.snp_model.specs.NestedWalk.{after_word, first_read, walk_from}
 use Rattle.snp_model.specs.Ready.{IsReady}
 use Rattle.snp_model.specs.RmpUpdate.{is_bad_smash, is_bad_update}
-use Rattle.snp_model.specs.State.{ActorPart, Contents, PageLock}
+use Rattle.snp_model.specs.State.{ActorPart, Contents, PageLock, Standing}
 use Rattle.snp_model.specs.Step.{line_at}
-use Rattle.snp_model.specs.Touches.{Touched, context_touched, frame_touched, instruction_touches, item_touches, lock_regions, locks_regions, need_touches, nothing_touched, region_of, touches_frame, walk_touches}
+use Rattle.snp_model.specs.Touches.{Touched, context_touched, frame_touched, instruction_touches, item_touches, lock_regions, locks_regions, need_touches, nothing_touched, region_of, touches_frame, walk_touches, with_locks}
 use Rattle.snp_model.specs.Walking.{Processor, lookup_of, table_path, data_path, table_need, data_need, walk_need, need_after}
 use Rattle.snp_model.proofs.ReadyLaws.{ready_line}
 use Rattle.snp_model.proofs.TestedLaws.{smash_passes, update_passes}
 use Rattle.machine_core.specs.declared.bay.Bay.{Bay}
 use Rattle.machine_core.specs.Bays.{HasAll, HasFrame, HasTouched, Stock, own_stock}
 use Rattle.machine_core.specs.OwnLaws.{within_some}
+use Rattle.machine_core.proofs.PageLaws.{base_region}
 use Rattle.machine_core.proofs.SmashLaws.{is_large_size, page_base, smash_below, smash_first}
 use Rattle.machine_core.proofs.UpdateLaws.{update_below, update_fits}
 
@@ -172,6 +175,55 @@ unfolding walk_touches
 walk_among regions cpu lookup [] below = none_among regions (context_touched cpu.guest) refl
 walk_among regions cpu lookup (deed ∷ deeds) below = need_among regions cpu.npt lookup _ _ below
 
+-- so is a page that an item of such a processor has locked, to which its walks have come: its lock covers frames of the region of the frame
+page_lock_region : (size : PageSize) (frame : ℕ) → lock_regions (page_lock size frame) ≡ region_of frame ∷ []
+page_lock_region Small frame = one_region (region_of frame) _ (omega arith)
+page_lock_region Large frame = one_region (region_of (frame / 512 * 512)) _ (omega arith) ∙ ap (λ (region : ℕ). region ∷ []) (base_region Large frame)
+
+arrived_below : (regions : ℕ) (cpu : Processor) (lookup : Lookup) (made : List Deed) (gpn : ℕ) (private : Bool) (frame : ℕ) (leaf : PageSize) → cpu.npt < 512 * regions
+    → need_after (512 * regions) cpu lookup made ≡ needs.Data gpn private frame leaf → frame < 512 * regions
+unfolding need_touches
+arrived_below regions cpu lookup made gpn private frame leaf below arrived =
+    let among : AreAmong regions (need_touches (need_after (512 * regions) cpu lookup made)) = need_among regions cpu.npt lookup _ _ below in
+    let region : frame / 512 < regions = subst (λ (need : Need). AreAmong regions (need_touches need)) arrived among frame (grind (arith, nat_tests)) in
+    omega arith
+
+walked_locked : (regions : ℕ) (guests : List GuestSpec) (contents : Contents) (cpu : Processor) (address : ℕ) (test : PageTest) (made : List Deed) (locks : List PageLock) → cpu.npt < 512 * regions
+    → IsOneLock (IsWalkedLock (512 * regions) guests contents cpu address test made) locks → IsOneLock (λ lock. IsOfFrame regions lock.frame lock) locks
+walked_locked regions guests contents cpu address test made [] below one = tt
+walked_locked regions guests contents cpu address test made (lock ∷ others) below one =
+    let walked = one.0 in (
+      record {
+        below = arrived_below regions cpu (page_lookup address) made walked.gpn walked.private lock.frame walked.leaf below walked.arrived;
+        one = ap lock_regions walked.covers ∙ page_lock_region (facts_of contents lock.frame).size lock.frame;
+      },
+      one.1,
+    )
+
+locks_among : (regions : ℕ) (locks : List PageLock) → IsOneLock (λ lock. IsOfFrame regions lock.frame lock) locks → (f : ℕ) → list_any (λ region. eqb region (region_of f)) (locks_regions locks) ≡ true → region_of f < regions
+unfolding locks_regions
+locks_among regions [] one f found = absurd (true≢false (sym found))
+locks_among regions (lock ∷ others) one f found =
+    let listed : lock_regions lock ++ locks_regions others ≡ region_of lock.frame ∷ [] = (λ i. one.0.one i ++ locks_regions (one.1 i)) in
+    let touched : touches_frame (frame_touched lock.frame) f ≡ true = subst (λ (regions : List ℕ). list_any (λ region. eqb region (region_of f)) regions ≡ true) listed found in
+    frame_among regions lock.frame one.0.below f touched
+
+either_true : (a b : Bool) → (a || b) ≡ true → (a ≡ true) ⊎ (b ≡ true)
+either_true true b is = inl refl
+either_true false b is = inr is
+
+also_among : (regions : ℕ) (locks : List PageLock) (touched : Touched) → AreAmong regions touched → IsOneLock (λ lock. IsOfFrame regions lock.frame lock) locks → AreAmong regions (with_locks locks touched)
+also_among regions locks touched among one frame touches =
+    let is_it = λ (region : ℕ). eqb region (region_of frame) in
+    ⊎_elim (among frame) (locks_among regions locks one frame)
+    (either_true (list_any is_it touched.regions) (list_any is_it (locks_regions locks)) (sym (list_any-append is_it touched.regions (locks_regions locks)) ∙ touches))
+
+locking_among : (regions : ℕ) (guests : List GuestSpec) (contents : Contents) (cpu : Processor) (address : ℕ) (test : PageTest) (made : List Deed) (standing : Standing) → cpu.npt < 512 * regions
+    → AreInstructionLocks (IsWalkedLock (512 * regions) guests contents cpu address test made) standing → AreAmong regions (with_locks standing.locks (walk_touches (512 * regions) cpu (page_lookup address) made))
+locking_among regions guests contents cpu address test made standing below tested =
+    also_among regions standing.locks (walk_touches (512 * regions) cpu (page_lookup address) made) (walk_among regions cpu (page_lookup address) made below)
+    (walked_locked regions guests contents cpu address test made standing.locks below tested.lock)
+
 address_among : (regions address : ℕ) → address < 4096 * (512 * regions) → address / 4096 < 512 * regions
 address_among regions address below = omega arith
 
@@ -181,8 +233,10 @@ item_among : (regions : ℕ) (guests : List GuestSpec) (contents : Contents) (pa
 unfolding item_touches AreItemLocks
 item_among regions guests contents part (Cpu guest vmpl npt paging) (items.Access address op) is_role is_item tested =
     walk_among regions (record { guest = guest; vmpl = vmpl; npt = npt; paging = paging }) (lookup_of address op) part.deeds is_role.npt_below
-item_among regions guests contents part (Cpu guest vmpl npt paging) (items.Pvalidate address size validate) is_role is_item tested = absurd is_item
-item_among regions guests contents part (Cpu guest vmpl npt paging) (items.Rmpadjust address size target mask vmsa) is_role is_item tested = absurd is_item
+item_among regions guests contents part (Cpu guest vmpl npt paging) (items.Pvalidate address size validate) is_role is_item tested =
+    locking_among regions guests contents (record { guest = guest; vmpl = vmpl; npt = npt; paging = paging }) address (validate_test size) part.deeds part.standing is_role.npt_below tested
+item_among regions guests contents part (Cpu guest vmpl npt paging) (items.Rmpadjust address size target mask vmsa) is_role is_item tested =
+    locking_among regions guests contents (record { guest = guest; vmpl = vmpl; npt = npt; paging = paging }) address (adjust_test size mask vmsa) part.deeds part.standing is_role.npt_below tested
 item_among regions guests contents part (Cpu guest vmpl npt paging) (items.Rmpupdate update) is_role is_item tested = none_among regions nothing_touched refl
 item_among regions guests contents part (Cpu guest vmpl npt paging) (items.Psmash frame) is_role is_item tested = none_among regions nothing_touched refl
 item_among regions guests contents part (Cpu guest vmpl npt paging) (items.Firmware command) is_role is_item tested = none_among regions nothing_touched refl

@@ -7,9 +7,10 @@ use Rattle.snp_model.specs.declared.event.Outcome.{Outcome}
 use Rattle.snp_model.specs.declared.event.Outcome.TheVariants.{Opaque}
 use Rattle.snp_model.specs.declared.event.Refusal.{Refusal}
 use Rattle.snp_model.specs.InstructionStep.{refused_outcome}
-use Rattle.snp_model.specs.Moves.{Move}
+use Rattle.snp_model.specs.Moves.{Arrival, Move}
 use Rattle.snp_model.specs.State.{PageLock, Standing, View}
 use Rattle.snp_model.specs.Walking.{Processor}
+use Rattle.machine_core.specs.declared.cpu.Arrived.{Arrived}
 use Rattle.machine_core.specs.declared.cpu.Processor as cpus
 use Rattle.machine_core.specs.declared.shown.Shown.{Shown}
 use Rattle.machine_core.specs.declared.taken_lock.TakenLock.{TakenLock}
@@ -45,6 +46,11 @@ lock_shown lock (Some refusal) = record { deed = Lock lock.frame; outcome = Some
 -- a processor as the model sees it
 abbrev pub processor_of : cpus.Processor → Processor
 processor_of cpu = record { guest = cpu.guest; vmpl = cpu.vmpl; npt = cpu.npt; paging = cpu.paging }
+
+-- the move of an item that walks: what its walks' next event shows, or, once they have come to a page, its own there
+abbrev pub walk_shows : Option Arrived → Arrival → Shown → View → Standing → Move
+walk_shows None arrives shown view standing = move_by shown view standing
+walk_shows (Some at) arrives shown view standing = arrives at.gpn at.private at.frame at.size
 
 -- the word of a guest table, or how its read is refused
 abbrev pub table_load : Verdict → ℕ → Result ℕ Outcome

@@ -1,8 +1,9 @@
--- The ranges of RMPUPDATE and PSMASH over what parts can lend: how their locks are refused, who holds them, and what was tested of them (this project's own).
+-- The ranges of RMPUPDATE and PSMASH and the pages of PVALIDATE and RMPADJUST over what parts can lend: how their locks are refused, who holds them, and what was tested of them (this project's own).
 use Rattle.std.specs.Prelude.{◌≡◌, ◌≢◌, ℕ, ◌+◌, ◌%◌, ◌^◌, ◌<◌, true, Option, Some, None}
+use Rattle.snp_model.specs.declared.entry.RmpEntry.{RmpEntry}
 use Rattle.snp_model.specs.declared.event.Refusal.{Refusal}
 use Rattle.snp_model.specs.declared.item.Update.{Update}
-use Rattle.snp_model.specs.Locks.{covers}
+use Rattle.snp_model.specs.Locks.{covers, page_lock}
 use Rattle.snp_model.specs.RmpUpdate.{smash_page_refusal, smash_refusal, update_range_refusal, update_refusal}
 use Rattle.snp_model.specs.State.{PageLock}
 use Rattle.rmp_update.specs.Regions.{IsAccepted}
@@ -16,6 +17,14 @@ update_refused frames update stock =
 -- that of PSMASH
 abbrev pub smash_refused : ℕ → ℕ → Stock → Option Refusal
 smash_refused frames frame stock = smash_refusal frames frame (pages_of stock.bays frame).facts (holders_of stock.bays frame)
+
+-- that of PVALIDATE or RMPADJUST at the frame to which it has come, by what it tests of the frame's facts and holder
+abbrev pub page_refused : (RmpEntry → Option ℕ → Option Refusal) → ℕ → Stock → Option Refusal
+page_refused test frame stock = test (pages_of stock.bays frame).facts (holders_of stock.bays frame)
+
+-- a lock is that of the page in which a frame stands
+abbrev pub IsLockOfPage : Stock → ℕ → PageLock → Type 0
+IsLockOfPage stock frame lock = lock ≡ page_lock (pages_of stock.bays frame).facts.size frame
 
 -- an actor has locked no frame
 abbrev pub HoldsNone : ℕ → Stock → Type 0

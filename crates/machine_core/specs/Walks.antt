@@ -1,5 +1,5 @@
 -- Where the guest walk of an item stands.
-use Rattle.std.specs.Prelude.{ℕ, List}
+use Rattle.std.specs.Prelude.{ℕ, List, Option, Some, None}
 use Rattle.snp_model.specs.declared.item.Item.{Item}
 use Rattle.snp_model.specs.declared.item.Item.TheVariants as items
 use Rattle.snp_model.specs.declared.scenario.Role.{Role}
@@ -9,7 +9,9 @@ use Rattle.snp_model.specs.declared.walk.GuestEnd.TheVariants as guest_ends
 use Rattle.snp_model.specs.declared.walk.Need.{Need}
 use Rattle.snp_model.specs.declared.walk.Need.TheVariants as needs
 use Rattle.snp_model.specs.Bounds.{IsPaging}
+use Rattle.snp_model.specs.InstructionStep.{page_lookup}
 use Rattle.snp_model.specs.Walking.{guest_stands, lookup_of}
+use Rattle.machine_core.specs.declared.cpu.Arrived.{Arrived}
 
 -- the guest tables of a guest processor begin at a guest page number
 abbrev pub IsPagingRole : Role → Type 0
@@ -24,8 +26,8 @@ no_walk = guest_ends.Fault 0
 -- where the guest walk of an actor's item stands that has read these words
 abbrev pub stands_of : Role → Item → List ℕ → GuestEnd
 stands_of (Cpu guest vmpl npt paging) (items.Access address op) words = guest_stands paging (lookup_of address op) words
-stands_of (Cpu guest vmpl npt paging) (items.Pvalidate address size validate) words = no_walk
-stands_of (Cpu guest vmpl npt paging) (items.Rmpadjust address size target mask vmsa) words = no_walk
+stands_of (Cpu guest vmpl npt paging) (items.Pvalidate address size validate) words = guest_stands paging (page_lookup address) words
+stands_of (Cpu guest vmpl npt paging) (items.Rmpadjust address size target mask vmsa) words = guest_stands paging (page_lookup address) words
 stands_of (Cpu guest vmpl npt paging) (items.Rmpupdate update) words = no_walk
 stands_of (Cpu guest vmpl npt paging) (items.Psmash frame) words = no_walk
 stands_of (Cpu guest vmpl npt paging) (items.Firmware command) words = no_walk
@@ -39,3 +41,10 @@ IsReading (needs.Nested frame index) = Unit {0}
 IsReading (needs.Table gpn index frame size) = ⊥
 IsReading (needs.Data gpn private frame size) = ⊥
 IsReading (needs.Fault outcome) = ⊥
+
+-- the page to which walks have come that need this, if they have
+abbrev pub arrived_at : Need → Option Arrived
+arrived_at (needs.Nested frame index) = None
+arrived_at (needs.Table gpn index frame size) = None
+arrived_at (needs.Data gpn private frame size) = Some (record { gpn = gpn; private = private; frame = frame; size = size })
+arrived_at (needs.Fault outcome) = None

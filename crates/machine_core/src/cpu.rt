@@ -1,11 +1,11 @@
-ghost use Rattle.std.specs.Prelude.{◌≡◌, ℕ, ◌+◌, ◌/◌, ◌%◌, ◌<◌, ◌≤◌, ◌^◌, length, List, ◌++◌, ◌∷◌, [], None, Some};
+ghost use Rattle.std.specs.Prelude.{◌≡◌, ℕ, ◌+◌, ◌/◌, ◌%◌, ◌<◌, ◌≤◌, ◌^◌, length, List, ◌++◌, ◌∷◌, [], None, Some, IfSome, IsSome};
 ghost use Rattle.snp_model.specs.declared.event.Deed.TheVariants.{Access, Nested, Table};
 ghost use Rattle.snp_model.specs.declared.item.Op.TheVariants.{Load};
 ghost use Rattle.snp_model.specs.declared.scenario.GuestSpec.{GuestSpec};
 ghost use Rattle.snp_model.specs.Accesses.{IsPlace, guest_verdict};
 ghost use Rattle.snp_model.specs.Bounds.{IsCpu, IsGuestInside, IsPaging};
 ghost use Rattle.snp_model.specs.GuestWalk.{levels_of};
-ghost use Rattle.snp_model.specs.Moves.{is_running, table_place, table_word, begin_move, walked_move};
+ghost use Rattle.snp_model.specs.Moves.{Arrival, is_running, table_place, table_word, begin_move, walked_move};
 ghost use Rattle.snp_model.specs.Opening.{asid_of, opening_contexts};
 ghost use Rattle.snp_model.specs.State.{ActorPart, View, word_of};
 ghost use Rattle.snp_model.specs.Step.{data_place, access_move, data_move};
@@ -14,8 +14,8 @@ ghost use Rattle.snp_model.specs.Verdicts.{private_verdict};
 ghost use Rattle.snp_model.specs.Walking.{index_of, guest_words, nested_words, guest_stands, walk_need, need_after, fault_of};
 ghost use Rattle.machine_core.specs.Actors.{IsBegun};
 ghost use Rattle.machine_core.specs.Bays.{HasFrame, HasTouched, locks_of, pages_of, view_on};
-ghost use Rattle.machine_core.specs.Moves.{move_by, processor_of, table_load, table_shown};
-ghost use Rattle.machine_core.specs.Walks.{IsReading};
+ghost use Rattle.machine_core.specs.Moves.{move_by, processor_of, table_load, table_shown, walk_shows};
+ghost use Rattle.machine_core.specs.Walks.{IsReading, arrived_at};
 
 use crate::actor::ActorState;
 use crate::changes::guest_access;
@@ -40,6 +40,16 @@ pub struct Processor {
 pub struct Walker {
     pub cpu: Processor,
     pub lookup: Lookup,
+}
+
+/// The page to which the walks of an item have come: its guest page number, below 2^36, whether it is private, the frame,
+/// in memory, and the size of the nested leaf.
+#[derive(Clone, Copy)]
+pub struct Arrived {
+    pub gpn: u64,
+    pub private: bool,
+    pub frame: u32,
+    pub size: PageSize,
 }
 
 // Whether a guest runs.
@@ -73,11 +83,11 @@ pub fn index_of(address: u64) -> u16
     (address / 8 % 512) as u16
 }
 
-// The beginning of an item that has no refusal of its own.
+// The beginning of an item, which may have a refusal of its own.
 #[tactic(auto, unfolding(snp_model::specs::Moves::begin_move))]
-fn begin(guests: &[GuestSpec], walker: &Walker, shown: &mut Shown)
+fn begin(guests: &[GuestSpec], walker: &Walker, refusal: Option<Outcome>, shown: &mut Shown)
     requires { 0 < walker.now.cpu.guest }
-    ensures moves { (after : View) (part : ActorPart) → begin_move after.contents part (opening_contexts guests.now walker.now.cpu.guest) (levels_of walker.now.cpu.paging) walker.now.lookup.address None ≡ move_by shown.new after part.standing }
+    ensures moves { (after : View) (part : ActorPart) → begin_move after.contents part (opening_contexts guests.now walker.now.cpu.guest) (levels_of walker.now.cpu.paging) walker.now.lookup.address refusal ≡ move_by shown.new after part.standing }
     ensures unlocked { shown.new.lock ≡ None }
 {
     let outcome = if !is_running(guests, walker.cpu.guest) {
@@ -85,7 +95,7 @@ fn begin(guests: &[GuestSpec], walker: &Walker, shown: &mut Shown)
     } else if !is_canonical(levels_of(walker.cpu.paging), walker.lookup.address) {
         Some(Outcome::Gp)
     } else {
-        None
+        refusal
     };
     *shown = Shown::quiet(Deed::Begin, outcome);
 }
@@ -196,29 +206,22 @@ fn table_place(
     }
 }
 
-// Where an access goes that has come to a frame.
-fn data_place(
-    guests: &[GuestSpec],
-    walker: &Walker,
-    gpn: u64,
-    private: bool,
-    frame: u32,
-    size: PageSize,
-) -> Place
+// Where an access goes that has come to a page.
+fn data_place(guests: &[GuestSpec], walker: &Walker, at: &Arrived) -> Place
     requires guest { 0 < walker.now.cpu.guest }
     requires vmpl { walker.now.cpu.vmpl < 4 }
-    requires gpn { gpn < 2 ^ 36 }
-    ensures place { result ≡ data_place (asid_of guests.now walker.now.cpu.guest) walker.now.cpu.vmpl walker.now.lookup.address gpn private frame size }
+    requires gpn { at.now.gpn < 2 ^ 36 }
+    ensures place { result ≡ data_place (asid_of guests.now walker.now.cpu.guest) walker.now.cpu.vmpl walker.now.lookup.address at.now.gpn at.now.private at.now.frame at.now.size }
     ensures inside { IsPlace result }
 {
     Place {
         asid: asid_of(guests, walker.cpu.guest),
-        gpn,
-        slot: frame as usize % 512,
+        gpn: at.gpn,
+        slot: at.frame as usize % 512,
         index: index_of(walker.lookup.address) as usize,
-        leaf: size,
+        leaf: at.size,
         vmpl: walker.cpu.vmpl,
-        private,
+        private: at.private,
         table: false,
     }
 }
@@ -245,8 +248,76 @@ fn reach<P: Parts>(parts: &mut P, place: &Place, frame: u32, op: &Op, shown: &mu
     *shown = Shown::last(deed, outcome);
 }
 
-/// The next event of an access of a guest's processor, in memory of so many frames.
+/// The next event of the walks of an item of a guest's processor, in memory of so many frames. Where they have come to a
+/// page, there is none, and the page is what is answered. An item may be refused as it begins.
 #[tactic(auto, using(crate::proofs::CpuLaws::table_moves), unfolding(snp_model::specs::Moves::walked_move, snp_model::specs::Moves::need_move))]
+pub fn walk<P: Parts>(
+    parts: &P,
+    frames: u32,
+    guests: &[GuestSpec],
+    actor: &ActorState,
+    walker: &Walker,
+    refusal: Option<Outcome>,
+    stands: GuestEnd,
+    shown: &mut Shown,
+) -> Option<Arrived>
+    requires cpu { IsCpu frames (length guests.now) walker.now.cpu.guest walker.now.cpu.vmpl walker.now.cpu.npt walker.now.cpu.paging }
+    requires stands { IsBegun actor.now.deeds → stands ≡ guest_stands walker.now.cpu.paging walker.now.lookup (guest_words actor.now.deeds) }
+    requires inside { IsGuestInside stands }
+    requires has { HasTouched (walk_touches frames (processor_of walker.now.cpu) walker.now.lookup actor.now.deeds) (P.stock parts.now) }
+    ensures moves { (arrives : Arrival) → let view = view_on (P.stock parts.now) guests.now in
+        walked_move frames guests.now view.contents actor.now (processor_of walker.now.cpu) walker.now.lookup refusal arrives actor.now.deeds
+        ≡ walk_shows result arrives shown.new view actor.now.standing }
+    ensures arrived { result ≡ arrived_at (need_after frames (processor_of walker.now.cpu) walker.now.lookup actor.now.deeds) }
+    ensures page { IfSome result (λ at. (at.gpn < 2 ^ 36) × HasFrame (P.stock parts.now) at.frame) }
+    ensures begun { IsSome result → IsBegun actor.now.deeds }
+    ensures unlocked { result ≡ None → shown.new.lock ≡ None }
+{
+    let cpu = walker.cpu;
+    if actor.deeds().is_empty() {
+        begin(guests, walker, refusal, shown);
+        return None;
+    }
+    match walk_need(
+        frames,
+        cpu.npt,
+        &walker.lookup,
+        stands,
+        actor.nested_words(),
+    ) {
+        Need::Nested { frame, index } => {
+            read_nested(parts, frames, actor, walker, stands, frame, index, shown);
+            None
+        }
+        Need::Table {
+            gpn,
+            index,
+            frame,
+            size,
+        } => {
+            let place = table_place(guests, cpu, gpn, index, frame, size);
+            read_table(parts, actor, walker, &place, frame, shown);
+            None
+        }
+        Need::Data {
+            gpn,
+            private,
+            frame,
+            size,
+        } => Some(Arrived {
+            gpn,
+            private,
+            frame,
+            size,
+        }),
+        Need::Fault(_) => {
+            *shown = Shown::faulted();
+            None
+        }
+    }
+}
+
+/// The next event of an access of a guest's processor, in memory of so many frames.
 pub fn cpu_access<P: Parts>(
     parts: &mut P,
     frames: u32,
@@ -269,38 +340,11 @@ pub fn cpu_access<P: Parts>(
     ensures locks { locks_of (P.stock parts.new) ≡ locks_of (P.stock parts.old) }
     ensures kept { P.kept parts.old parts.new }
 {
-    let cpu = walker.cpu;
-    if actor.deeds().is_empty() {
-        return begin(guests, walker, shown);
-    }
-    match walk_need(
-        frames,
-        cpu.npt,
-        &walker.lookup,
-        stands,
-        actor.nested_words(),
-    ) {
-        Need::Nested { frame, index } => {
-            read_nested(parts, frames, actor, walker, stands, frame, index, shown)
+    match walk(parts, frames, guests, actor, walker, None, stands, shown) {
+        None => {}
+        Some(at) => {
+            let place = data_place(guests, walker, &at);
+            reach(parts, &place, at.frame, op, shown)
         }
-        Need::Table {
-            gpn,
-            index,
-            frame,
-            size,
-        } => {
-            let place = table_place(guests, cpu, gpn, index, frame, size);
-            read_table(parts, actor, walker, &place, frame, shown)
-        }
-        Need::Data {
-            gpn,
-            private,
-            frame,
-            size,
-        } => {
-            let place = data_place(guests, walker, gpn, private, frame, size);
-            reach(parts, &place, frame, op, shown)
-        }
-        Need::Fault(_) => *shown = Shown::faulted(),
     }
 }

@@ -4,6 +4,7 @@ ghost use Rattle.snp_model.specs.declared.scenario.Role.TheVariants.{Cpu, Host, 
 ghost use Rattle.snp_model.specs.Bounds.{IsCpu, IsGuestInside, IsItemOf};
 ghost use Rattle.snp_model.specs.HeldLocks.{AreItemLocks};
 ghost use Rattle.snp_model.specs.KeptLocks.{IsTestedAt, OwnsLocks, relocked};
+ghost use Rattle.snp_model.specs.OpenAttempts.{IsAttempt};
 ghost use Rattle.snp_model.specs.Ready.{IsReady};
 ghost use Rattle.snp_model.specs.Step.{item_move, line_at, step_of};
 ghost use Rattle.snp_model.specs.Touches.{item_touches};
@@ -14,6 +15,7 @@ ghost use Rattle.machine_core.specs.Moves.{locks_by, move_by, standing_by};
 ghost use Rattle.machine_core.specs.Walks.{stands_of};
 
 use crate::actor::ActorState;
+use crate::adjust::{Adjustment, adjust_event};
 use crate::cpu::{Processor, Walker, cpu_access};
 use crate::host::host_access;
 use crate::parts::Parts;
@@ -21,6 +23,7 @@ use crate::shown::Shown;
 use crate::skip::skip;
 use crate::smash::smash_event;
 use crate::update::update_event;
+use crate::validate::{Validation, validate_event};
 use crate::walking::lookup_of;
 use snp_model::{Event, GuestEnd, GuestSpec, Item, Role};
 
@@ -89,6 +92,7 @@ fn next_event<P: Parts>(
             };
             cpu_event(
                 parts,
+                number,
                 frames,
                 guests,
                 actor,
@@ -104,9 +108,10 @@ fn next_event<P: Parts>(
 }
 
 // The next event of a guest's processor.
-#[tactic(auto, unfolding(snp_model::specs::Step::item_move, snp_model::specs::Touches::item_touches))]
+#[tactic(auto, using(crate::proofs::HeldLaws::none_relocked, crate::proofs::ArrivedLaws::attempt_admitted), unfolding(snp_model::specs::Step::item_move, snp_model::specs::Touches::item_touches, snp_model::specs::HeldLocks::AreItemLocks, snp_model::specs::OpenAttempts::IsAttempt))]
 fn cpu_event<P: Parts>(
     parts: &mut P,
+    number: u32,
     frames: u32,
     guests: &[GuestSpec],
     actor: &ActorState,
@@ -119,11 +124,14 @@ fn cpu_event<P: Parts>(
     requires item { IsItemOf frames (Cpu cpu.guest cpu.vmpl cpu.npt cpu.paging) item.now }
     requires stands { IsBegun actor.now.deeds → stands ≡ stands_of (Cpu cpu.guest cpu.vmpl cpu.npt cpu.paging) item.now (guest_words actor.now.deeds) }
     requires inside { IsGuestInside stands }
+    requires attempt { IsAttempt frames (Cpu cpu.guest cpu.vmpl cpu.npt cpu.paging) item.now actor.now.standing actor.now.deeds }
     requires has { HasTouched (item_touches frames guests.now actor.now (Cpu cpu.guest cpu.vmpl cpu.npt cpu.paging) item.now) (P.stock parts.old) }
+    requires owns { OwnsLocks number actor.now (locks_of (P.stock parts.old)).holder }
+    requires tested { AreItemLocks frames guests.now (view_on (P.stock parts.old) guests.now).contents (Cpu cpu.guest cpu.vmpl cpu.npt cpu.paging) item.now actor.now.deeds actor.now.standing }
     ensures moves { item_move frames guests.now (view_on (P.stock parts.old) guests.now) actor.now (Cpu cpu.guest cpu.vmpl cpu.npt cpu.paging) item.now
-        ≡ move_by shown.new (view_on (P.stock parts.new) guests.now) actor.now.standing }
-    ensures unlocked { shown.new.lock ≡ None }
-    ensures locks { locks_of (P.stock parts.new) ≡ locks_of (P.stock parts.old) }
+        ≡ move_by shown.new (view_on (P.stock parts.new) guests.now) (standing_by shown.new actor.now.standing) }
+    ensures locks { (locks_of (P.stock parts.new)).holder ≡ relocked number (locks_by shown.new actor.now.standing) (locks_of (P.stock parts.old)).holder }
+    ensures room { IsSome shown.new.lock → length actor.now.standing.locks < 3 }
     ensures kept { P.kept parts.old parts.new }
 {
     match item {
@@ -134,8 +142,38 @@ fn cpu_event<P: Parts>(
             };
             cpu_access(parts, frames, guests, actor, &walker, op, stands, shown)
         }
-        Item::Pvalidate { .. } => *shown = Shown::unbuilt(),
-        Item::Rmpadjust { .. } => *shown = Shown::unbuilt(),
+        Item::Pvalidate {
+            address,
+            size,
+            validate,
+        } => {
+            let ask = Validation {
+                address: *address,
+                size: *size,
+                validate: *validate,
+            };
+            validate_event(
+                parts, number, frames, guests, actor, cpu, &ask, stands, shown,
+            )
+        }
+        Item::Rmpadjust {
+            address,
+            size,
+            target,
+            mask,
+            vmsa,
+        } => {
+            let ask = Adjustment {
+                address: *address,
+                size: *size,
+                target: *target,
+                mask: *mask,
+                vmsa: *vmsa,
+            };
+            adjust_event(
+                parts, number, frames, guests, actor, cpu, &ask, stands, shown,
+            )
+        }
         Item::Rmpupdate(_) => *shown = Shown::misplaced(),
         Item::Psmash { .. } => *shown = Shown::misplaced(),
         Item::Firmware(_) => *shown = Shown::misplaced(),

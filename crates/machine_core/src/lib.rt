@@ -4,21 +4,24 @@
 //! - `event`: `advance`, one event of one actor, by its role and its item.
 //! - `actor`: an actor's own state; `walk_words`: what its walks have read; `taken_lock`: a lock that it has taken;
 //!   `shown`: what an event shows.
-//! - `cpu`, `host`, `update`, `smash`, `skip`: the items; `walking`: what the walks of a guest's processor need next.
+//! - `cpu`, `validate`, `adjust`, `host`, `update`, `smash`, `skip`: the items; `walking`: what the walks of a guest's
+//!   processor need next; `page`: what PVALIDATE and RMPADJUST share.
 //! - `parts`: what is lent to an event; `bay`: one region of it; `reads`, `changes`: what an event reads of a region, and
 //!   what it reads and writes of one at once.
 //!
 //! One event goes this way: `Machine::step` lends all regions to `advance`, which asks the actor for its role and its line
 //! (`next_event`) and goes by the role (`cpu_event`, `host_event`, `firmware_event`) and the item to `cpu_access`,
-//! `host_access`, `update_event`, `smash_event` or `skip`. An access of a guest's processor asks `walk_need` what it
-//! needs. A word of a table is read by `reads`, and the access itself is made by `changes`, which take the region's `Bay`
-//! from the parts: the check and the access are one call of `access_step` on it. RMPUPDATE and PSMASH are two events, the
-//! lock and the commit, each one call of `rmp_update` on the region's `Bay`. What an event shows is written to a `Shown`
-//! of the machine's, since large values are slow to hand upward, and `ActorState::take_down` turns it into the event and
-//! the actor's next state.
+//! `validate_event`, `adjust_event`, `host_access`, `update_event`, `smash_event` or `skip`. An item of a guest's
+//! processor goes on in its walks by `walk`, which asks `walk_need` what they need, until they have come to a page. A word
+//! of a table is read by `reads`, and the access itself is made by `changes`, which take the region's `Bay` from the
+//! parts: the check and the access are one call of `access_step` on it. RMPUPDATE, PSMASH, PVALIDATE and RMPADJUST are two
+//! events, the lock and the commit, each one call of `rmp_update`, `rmp_validate` or `rmp_adjust` on the region's `Bay`.
+//! What an event shows is written to a `Shown` of the machine's, since large values are slow to hand upward, and
+//! `ActorState::take_down` turns it into the event and the actor's next state.
 #![tactic(auto)]
 
 mod actor;
+mod adjust;
 mod bay;
 mod building;
 mod changes;
@@ -27,6 +30,7 @@ mod event;
 mod host;
 mod law;
 mod machine;
+mod page;
 mod parts;
 mod reads;
 mod shown;
@@ -34,6 +38,7 @@ mod skip;
 mod smash;
 mod taken_lock;
 mod update;
+mod validate;
 mod walk_words;
 mod walking;
 

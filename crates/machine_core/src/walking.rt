@@ -2,6 +2,7 @@ ghost use Rattle.std.specs.Prelude.{◌≡◌, ℕ, ◌<◌, ◌≤◌, ◌^◌,
 ghost use Rattle.snp_model.specs.declared.walk.Lookup.{Lookup};
 ghost use Rattle.snp_model.specs.Bounds.{IsPaging, IsGuestInside, IsNestedInside, IsNeedInside};
 ghost use Rattle.snp_model.specs.GuestWalk.{guest_end, levels_of};
+ghost use Rattle.snp_model.specs.InstructionStep.{page_lookup};
 ghost use Rattle.snp_model.specs.Walking.{lookup_of, flat_gpn, guest_path, counting, guest_stands, table_path, data_path, table_need, data_need, walk_need, fault_of};
 ghost use Rattle.machine_core.specs.Walks.{IsPagingRole, IsReading, no_walk, stands_of};
 
@@ -30,6 +31,17 @@ pub fn lookup_of(address: u64, op: &Op) -> Lookup
     }
 }
 
+/// What the walks of PVALIDATE and RMPADJUST look up: a read, whose leaf's C bit is passed over.
+pub fn page_lookup(address: u64) -> Lookup
+    ensures { result ≡ page_lookup address }
+{
+    Lookup {
+        address,
+        write: false,
+        c_bit: false,
+    }
+}
+
 /// How many levels of guest tables there are. An address without guest tables is held to the rule of four.
 pub fn levels_of(paging: Paging) -> u8
     ensures levels { result ≡ levels_of paging }
@@ -52,8 +64,8 @@ pub fn item_stands(role: &Role, item: &Item, words: &[u64]) -> GuestEnd
     match role {
         Role::Cpu { paging, .. } => match item {
             Item::Access { address, op } => guest_stands(*paging, &lookup_of(*address, op), words),
-            Item::Pvalidate { .. } => no_walk(),
-            Item::Rmpadjust { .. } => no_walk(),
+            Item::Pvalidate { address, .. } => guest_stands(*paging, &page_lookup(*address), words),
+            Item::Rmpadjust { address, .. } => guest_stands(*paging, &page_lookup(*address), words),
             Item::Rmpupdate(_) => no_walk(),
             Item::Psmash { .. } => no_walk(),
             Item::Firmware(_) => no_walk(),

@@ -29,10 +29,6 @@ abbrev pub IsNoCommand : Role → Item → Type 0
 IsNoCommand Firmware (items.Firmware command) = ⊥
 IsNoCommand role item = Unit {0}
 
-pub proved_no_command : (role : Role) (item : Item) → IsProved role item → IsNoCommand role item
-proved_no_command Firmware (items.Firmware command) known = known
-proved_no_command role item known = tt
-
 -- such an item is a PVALIDATE or an RMPADJUST of a guest's processor, or one of which it is proved for any guest
 by_item : (P : Role → Item → Type 0)
     → ((owner vmpl npt : ℕ) (paging : Paging) (address : ℕ) (size : PageSize) (validate : Bool) → P (Cpu owner vmpl npt paging) (items.Pvalidate address size validate))
@@ -55,7 +51,7 @@ validate_item : (guest asid : ℕ) (archive : Archive) (guests : List GuestSpec)
     → ItemFine guest asid archive guests memory frames view part (Cpu owner vmpl npt paging) (items.Pvalidate address size validate)
 unfolding AreItemLocks IsAttempt item_move
 validate_item guest asid archive guests memory frames view part owner vmpl npt paging address size validate before owns whole tested walking lacks =
-    validate_fine guest asid archive guests memory frames view part (record { guest = owner; vmpl = vmpl; npt = npt; paging = paging }) address size validate before owns whole tested.lock walking lacks
+    validate_fine guest asid archive guests memory frames view part (record { guest = owner; vmpl = vmpl; npt = npt; paging = paging }) address size validate before owns whole tested.lock walking.walk lacks
 
 adjust_item : (guest asid : ℕ) (archive : Archive) (guests : List GuestSpec) (memory : Memory) (frames : ℕ) (view : View) (part : ActorPart) (owner vmpl npt : ℕ) (paging : Paging) (address : ℕ) (size : PageSize) (target mask : ℕ) (vmsa : Bool)
     → ItemFine guest asid archive guests memory frames view part (Cpu owner vmpl npt paging) (items.Rmpadjust address size target mask vmsa)

@@ -1,4 +1,4 @@
--- Each guest's private accesses are one legal history of a memory of its own, whatever the schedule is.
+-- The private accesses of a disciplined guest are one legal history of a memory of its own, whatever the other guests are and whatever the schedule is.
 use Rattle.std.proofs.Common.{◌≢◌, ℕ, zero, suc, ◌-◌, ◌<◌, ◌≤◌, List, [], ◌∷◌, length, map, get_or, None, refl, sym, ap, subst, arith}
 use Rattle.std.specs.List.{AllByRecursion}
 use Rattle.snp_model.specs.declared.item.Item.{Item}
@@ -24,21 +24,23 @@ use Rattle.snp_model.specs.Sound.{Pairwise, IsSound, AsidsDiffer, IsPage, GpnsDi
 use Rattle.snp_model.specs.GuestMemory.{Memory, next_use, used, opening_memory, memory_from, memory_after, IsLegalFrom, IsLegal}
 use Rattle.snp_model.specs.Live.{Archive, vault_of}
 use Rattle.snp_model.specs.Holders.{Core}
+use Rattle.snp_model.specs.Premises.{IsDisciplinedFrom, IsDisciplined, AreLegal}
 use Rattle.snp_model.proofs.CoreLaws.{AreFit, frames_core}
+use Rattle.snp_model.proofs.DisciplinedItems.{IsNoCommand, processor_item_fine, processor_step_large}
+use Rattle.snp_model.proofs.DisciplineLaws.{next_lacks}
 use Rattle.snp_model.proofs.RunLaws.{after_keeps}
-use Rattle.snp_model.proofs.UseLaws.{AreWhole, RoleOwns, IsProved, Fine}
-use Rattle.snp_model.proofs.ItemUseLaws.{item_fine}
-use Rattle.snp_model.proofs.LargeItems.{step_large}
+use Rattle.snp_model.proofs.UseLaws.{AreWhole, RoleOwns, Fine}
 use Rattle.snp_model.proofs.LargePages.{AreLargeWhole, shaped_large, sizes_whole}
 use Rattle.snp_model.proofs.LockedLaws.{step_keeps_locks}
 use Rattle.snp_model.proofs.LockedRuns.{part_walking, opening_keeps_locks}
 use Rattle.snp_model.proofs.OpenAttemptsLaws.{after_walking, opening_walking}
 use Rattle.snp_model.proofs.OpeningLaws.{IsApartFrom, RangesApart, opening_core, opening_whole, opening_fits, opening_dead}
 use Rattle.snp_model.proofs.OpeningParts.{opening_shaped}
+use Rattle.snp_model.proofs.ValidateUseLaws.{LacksAccepted}
 
--- the items of a script are such as this is proved of
-abbrev pub AreProved : Role → List Line → Type 0
-AreProved role script = (place : ℕ) → IsProved role (line_at script place).item
+-- no item of a script is a command of the firmware's
+abbrev pub AreNoCommands : Role → List Line → Type 0
+AreNoCommands role script = (place : ℕ) → IsNoCommand role (line_at script place).item
 
 -- what a state keeps for a guest: beside the guest's memory, what it keeps of locks, of open attempts and of pages of 2 MB
 pub record Keeps (guest asid : ℕ) (archive : Archive) (m : State) (memory : Memory) : Type 0 where
@@ -46,31 +48,30 @@ pub record Keeps (guest asid : ℕ) (archive : Archive) (m : State) (memory : Me
   pub whole : AreWhole m.contents.pages
   pub fits : AreFit m.contents.pages
   pub owns : (actor : ℕ) → RoleOwns guest asid m.guests (part_of m actor).role
-  pub known : (actor : ℕ) → AreProved (part_of m actor).role (part_of m actor).script
+  pub known : (actor : ℕ) → AreNoCommands (part_of m actor).role (part_of m actor).script
   pub locks : KeepsLocks m
   pub walking : AreWalking m
   pub large : AreLargeWhole m.contents.pages
 
--- an event of any actor
-step_fine : (guest asid : ℕ) (archive : Archive) (m : State) (memory : Memory) (actor : ℕ) → Keeps guest asid archive m memory
+-- an event of any actor that makes no page held which is held already
+step_fine : (guest asid : ℕ) (archive : Archive) (m : State) (memory : Memory) (actor : ℕ) → IsUnfinished m actor → LacksAccepted memory (next_use guest m actor) → Keeps guest asid archive m memory
     → Fine guest asid archive memory m.contents (after m actor).contents (next_use guest m actor)
 unfolding after next_use event_of
-step_fine guest asid archive m memory actor keeps =
+step_fine guest asid archive m memory actor unfinished lacks keeps =
     let part = part_of m actor in
-    (item_fine guest asid archive m.guests memory m.frames (view_of m) part part.role (line_at part.script part.item).item
-    (record { core = keeps.core; whole = keeps.whole; fits = keeps.fits }) (keeps.owns actor) (keeps.known actor part.item)
-    keeps.large (keeps.locks.tested (actor - 1))).fine
+    (processor_item_fine guest asid archive m.guests memory m.frames (view_of m) part part.role (line_at part.script part.item).item (keeps.known actor part.item)
+    (record { core = keeps.core; whole = keeps.whole; fits = keeps.fits }) (keeps.owns actor) keeps.large (keeps.locks.tested (actor - 1)) (part_walking m actor keeps.walking unfinished) lacks).fine
 
 -- each actor is of the guest that it was of
-pub owns_after : (guest asid : ℕ) (m : State) (actor other : ℕ) → RoleOwns guest asid m.guests (part_of m other).role → RoleOwns guest asid (after m actor).guests (part_of (after m actor) other).role
+owns_after : (guest asid : ℕ) (m : State) (actor other : ℕ) → RoleOwns guest asid m.guests (part_of m other).role → RoleOwns guest asid (after m actor).guests (part_of (after m actor) other).role
 unfolding after
 owns_after guest asid m actor other owns = subst (RoleOwns guest asid m.guests) (sym (after_keeps m actor other).role) owns
 
 -- so the next state keeps the same
-step_keeps : (guest asid : ℕ) (archive : Archive) (m : State) (memory : Memory) (actor : ℕ) → IsUnfinished m actor → Keeps guest asid archive m memory
+pub step_keeps : (guest asid : ℕ) (archive : Archive) (m : State) (memory : Memory) (actor : ℕ) → IsUnfinished m actor → LacksAccepted memory (next_use guest m actor) → Keeps guest asid archive m memory
     → Keeps guest asid archive (after m actor) (used (next_use guest m actor) memory)
-step_keeps guest asid archive m memory actor unfinished keeps =
-    let fine = step_fine guest asid archive m memory actor keeps in
+step_keeps guest asid archive m memory actor unfinished lacks keeps =
+    let fine = step_fine guest asid archive m memory actor unfinished lacks keeps in
     let part = part_of m actor in
     let own_walking = part_walking m actor keeps.walking unfinished in
     record {
@@ -81,23 +82,38 @@ step_keeps guest asid archive m memory actor unfinished keeps =
       known = λ other. let kept = after_keeps m actor other in rw (kept.role, kept.script) (keeps.known other);
       locks = step_keeps_locks m actor keeps.locks own_walking;
       walking = after_walking m actor keeps.walking unfinished;
-      large = step_large m actor keeps.locks own_walking (keeps.known actor part.item) keeps.large;
+      large = processor_step_large m actor keeps.locks own_walking (keeps.known actor part.item) keeps.large;
     }
 
--- so a run from a state on
-pub run_keeps : (guest asid : ℕ) (archive : Archive) (m : State) (memory : Memory) (s : List ℕ) → IsDefinedFrom m s → Keeps guest asid archive m memory
-    → Keeps guest asid archive (state_from m s) (memory_from guest m memory s)
-unfolding state_from memory_from IsDefinedFrom
-run_keeps guest asid archive m memory [] defined keeps = keeps
-run_keeps guest asid archive m memory (a ∷ s) defined keeps =
-    run_keeps guest asid archive (after m a) (used (next_use guest m a) memory) s defined.1 (step_keeps guest asid archive m memory a defined.0 keeps)
+-- what is asked of a run: no event makes a page held that the guest holds already; so each PVALIDATE of the guest's that answers carry flag 0 names pages that it lacks, and where the flag is 1 nothing is asked
+unfoldable pub IsLackingFrom : ℕ → State → Memory → List ℕ → Type 0
+IsLackingFrom guest m memory [] = Unit {0}
+IsLackingFrom guest m memory (actor ∷ actors) = LacksAccepted memory (next_use guest m actor) × IsLackingFrom guest (after m actor) (used (next_use guest m actor) memory) actors
 
-pub run_legal : (guest asid : ℕ) (archive : Archive) (m : State) (memory : Memory) (s : List ℕ) → IsDefinedFrom m s → Keeps guest asid archive m memory → IsLegalFrom guest m memory s
-unfolding IsLegalFrom IsDefinedFrom
-run_legal guest asid archive m memory [] defined keeps = tt
-run_legal guest asid archive m memory (a ∷ s) defined keeps = (
-  (step_fine guest asid archive m memory a keeps).legal,
-  run_legal guest asid archive (after m a) (used (next_use guest m a) memory) s defined.1 (step_keeps guest asid archive m memory a defined.0 keeps),
+abbrev pub IsLacking : Scenario → List ℕ → ℕ → Type 0
+IsLacking scenario schedule guest = IsLackingFrom guest (opening scenario) (opening_memory scenario guest) schedule
+
+-- a disciplined guest's run is such
+disciplined_lacks : (guest : ℕ) (m : State) (memory : Memory) (s : List ℕ) → IsDisciplinedFrom guest m memory s → IsLackingFrom guest m memory s
+unfolding IsDisciplinedFrom IsLackingFrom
+disciplined_lacks guest m memory [] disciplined = tt
+disciplined_lacks guest m memory (a ∷ s) disciplined =
+    (next_lacks guest m a memory disciplined.0, disciplined_lacks guest (after m a) (used (next_use guest m a) memory) s disciplined.1)
+
+-- so a run from a state on
+lacking_keeps : (guest asid : ℕ) (archive : Archive) (m : State) (memory : Memory) (s : List ℕ) → IsDefinedFrom m s → IsLackingFrom guest m memory s → Keeps guest asid archive m memory
+    → Keeps guest asid archive (state_from m s) (memory_from guest m memory s)
+unfolding state_from memory_from IsDefinedFrom IsLackingFrom
+lacking_keeps guest asid archive m memory [] defined lacks keeps = keeps
+lacking_keeps guest asid archive m memory (a ∷ s) defined lacks keeps =
+    lacking_keeps guest asid archive (after m a) (used (next_use guest m a) memory) s defined.1 lacks.1 (step_keeps guest asid archive m memory a defined.0 lacks.0 keeps)
+
+lacking_legal : (guest asid : ℕ) (archive : Archive) (m : State) (memory : Memory) (s : List ℕ) → IsDefinedFrom m s → IsLackingFrom guest m memory s → Keeps guest asid archive m memory → IsLegalFrom guest m memory s
+unfolding IsLegalFrom IsDefinedFrom IsLackingFrom
+lacking_legal guest asid archive m memory [] defined lacks keeps = tt
+lacking_legal guest asid archive m memory (a ∷ s) defined lacks keeps = (
+  (step_fine guest asid archive m memory a defined.0 lacks.0 keeps).legal,
+  lacking_legal guest asid archive (after m a) (used (next_use guest m a) memory) s defined.1 lacks.1 (step_keeps guest asid archive m memory a defined.0 lacks.0 keeps),
 )
 
 -- two guests have two ASIDs
@@ -155,47 +171,47 @@ actors_own c guest frames [] k sound some most all = tt
 actors_own c guest frames (actor ∷ actors) zero sound some most all = declared_owns c guest frames actor.role sound some most all.0.role
 actors_own c guest frames (actor ∷ actors) (suc k) sound some most all = actors_own c guest frames actors k sound some most all.1
 
--- no scenario has an item of which it isn't proved
-sound_proved : (frames : ℕ) (role : Role) (item : Item) → IsItemOf frames role item → IsProved role item
-sound_proved frames (Cpu owner vmpl npt paging) (items.Access address op) is = tt
-sound_proved frames (Cpu owner vmpl npt paging) (items.Pvalidate address size validate) is = is
-sound_proved frames (Cpu owner vmpl npt paging) (items.Rmpadjust address size target mask vmsa) is = is
-sound_proved frames (Cpu owner vmpl npt paging) (items.Rmpupdate update) is = tt
-sound_proved frames (Cpu owner vmpl npt paging) (items.Psmash frame) is = tt
-sound_proved frames (Cpu owner vmpl npt paging) (items.Firmware command) is = tt
-sound_proved frames (Cpu owner vmpl npt paging) (items.Skip count test) is = tt
-sound_proved frames Host (items.Access address op) is = tt
-sound_proved frames Host (items.Pvalidate address size validate) is = tt
-sound_proved frames Host (items.Rmpadjust address size target mask vmsa) is = tt
-sound_proved frames Host (items.Rmpupdate update) is = tt
-sound_proved frames Host (items.Psmash frame) is = tt
-sound_proved frames Host (items.Firmware command) is = tt
-sound_proved frames Host (items.Skip count test) is = tt
-sound_proved frames Firmware (items.Access address op) is = tt
-sound_proved frames Firmware (items.Pvalidate address size validate) is = tt
-sound_proved frames Firmware (items.Rmpadjust address size target mask vmsa) is = tt
-sound_proved frames Firmware (items.Rmpupdate update) is = tt
-sound_proved frames Firmware (items.Psmash frame) is = tt
-sound_proved frames Firmware (items.Firmware command) is = is
-sound_proved frames Firmware (items.Skip count test) is = tt
+-- no scenario has a command of the firmware yet
+sound_no_command : (frames : ℕ) (role : Role) (item : Item) → IsItemOf frames role item → IsNoCommand role item
+sound_no_command frames (Cpu owner vmpl npt paging) (items.Access address op) is = tt
+sound_no_command frames (Cpu owner vmpl npt paging) (items.Pvalidate address size validate) is = tt
+sound_no_command frames (Cpu owner vmpl npt paging) (items.Rmpadjust address size target mask vmsa) is = tt
+sound_no_command frames (Cpu owner vmpl npt paging) (items.Rmpupdate update) is = tt
+sound_no_command frames (Cpu owner vmpl npt paging) (items.Psmash frame) is = tt
+sound_no_command frames (Cpu owner vmpl npt paging) (items.Firmware command) is = tt
+sound_no_command frames (Cpu owner vmpl npt paging) (items.Skip count test) is = tt
+sound_no_command frames Host (items.Access address op) is = tt
+sound_no_command frames Host (items.Pvalidate address size validate) is = tt
+sound_no_command frames Host (items.Rmpadjust address size target mask vmsa) is = tt
+sound_no_command frames Host (items.Rmpupdate update) is = tt
+sound_no_command frames Host (items.Psmash frame) is = tt
+sound_no_command frames Host (items.Firmware command) is = tt
+sound_no_command frames Host (items.Skip count test) is = tt
+sound_no_command frames Firmware (items.Access address op) is = tt
+sound_no_command frames Firmware (items.Pvalidate address size validate) is = tt
+sound_no_command frames Firmware (items.Rmpadjust address size target mask vmsa) is = tt
+sound_no_command frames Firmware (items.Rmpupdate update) is = tt
+sound_no_command frames Firmware (items.Psmash frame) is = tt
+sound_no_command frames Firmware (items.Firmware command) is = is
+sound_no_command frames Firmware (items.Skip count test) is = tt
 
-skip_proved : (role : Role) (count : ℕ) (test : SkipTest) → IsProved role (items.Skip count test)
-skip_proved (Cpu owner vmpl npt paging) count test = tt
-skip_proved Host count test = tt
-skip_proved Firmware count test = tt
+skip_no_command : (role : Role) (count : ℕ) (test : SkipTest) → IsNoCommand role (items.Skip count test)
+skip_no_command (Cpu owner vmpl npt paging) count test = tt
+skip_no_command Host count test = tt
+skip_no_command Firmware count test = tt
 
-script_proved : (frames : ℕ) (role : Role) (script : List Line) → AllByRecursion (IsLineOf frames role) script → AreProved role script
+script_no_commands : (frames : ℕ) (role : Role) (script : List Line) → AllByRecursion (IsLineOf frames role) script → AreNoCommands role script
 unfolding idle_line
-script_proved frames role [] all place = skip_proved role 0 Good
-script_proved frames role (line ∷ lines) all zero = sound_proved frames role line.item all.0.item
-script_proved frames role (line ∷ lines) all (suc place) = script_proved frames role lines all.1 place
+script_no_commands frames role [] all place = skip_no_command role 0 Good
+script_no_commands frames role (line ∷ lines) all zero = sound_no_command frames role line.item all.0.item
+script_no_commands frames role (line ∷ lines) all (suc place) = script_no_commands frames role lines all.1 place
 
-pub actors_proved : (frames guests : ℕ) (actors : List Actor) (k : ℕ) → AllByRecursion (IsActor frames guests) actors
-    → AreProved (get_or (map opening_part actors) k idle_part).role (get_or (map opening_part actors) k idle_part).script
+pub actors_no_commands : (frames guests : ℕ) (actors : List Actor) (k : ℕ) → AllByRecursion (IsActor frames guests) actors
+    → AreNoCommands (get_or (map opening_part actors) k idle_part).role (get_or (map opening_part actors) k idle_part).script
 unfolding idle_part
-actors_proved frames guests [] k all = script_proved frames Host [] tt
-actors_proved frames guests (actor ∷ actors) zero all = script_proved frames actor.role actor.script all.0.script
-actors_proved frames guests (actor ∷ actors) (suc k) all = actors_proved frames guests actors k all.1
+actors_no_commands frames guests [] k all = script_no_commands frames Host [] tt
+actors_no_commands frames guests (actor ∷ actors) zero all = script_no_commands frames actor.role actor.script all.0.script
+actors_no_commands frames guests (actor ∷ actors) (suc k) all = actors_no_commands frames guests actors k all.1
 
 -- at the opening pages of 2 MB are whole
 pub opening_large : (c : Scenario) → IsSound c → AreLargeWhole (opening c).contents.pages
@@ -216,22 +232,29 @@ opening_keeps c guest archive sound some most =
       whole = opening_whole c.words;
       fits = opening_fits c.guests c.pages words;
       owns = λ actor. actors_own c guest _ c.actors (actor - 1) sound some most sound.actors;
-      known = λ actor. actors_proved _ _ c.actors (actor - 1) sound.actors;
+      known = λ actor. actors_no_commands _ _ c.actors (actor - 1) sound.actors;
       locks = opening_locks c sound;
       walking = opening_walking c;
       large = opening_large c sound;
     }
 
--- in each state of a run each page of a declared guest has at most one holder, with the words of the guest's memory, whatever archive is taken: while nothing is sealed, no entry is live
-pub state_keeps_core : (c : Scenario) (s : List ℕ) (archive : Archive) → IsSound c → IsDefined c s → (guest : ℕ) → 0 < guest → guest ≤ length c.guests
+-- in each state of a run each page of a guest that is disciplined has at most one holder, with the words of the guest's memory, whatever archive is taken: while nothing is sealed, no entry is live
+pub state_keeps_core : (c : Scenario) (s : List ℕ) (archive : Archive) → IsSound c → IsDefined c s → (guest : ℕ) → 0 < guest → guest ≤ length c.guests → IsDisciplined c s guest
     → Core (asid_of c.guests guest) (vault_of guest (state_after c s).contents archive) (memory_after c s guest)
-state_keeps_core c s archive sound defined guest some most =
-    (run_keeps guest (asid_of c.guests guest) archive (opening c) (opening_memory c guest) s defined (opening_keeps c guest archive sound some most)).core
+state_keeps_core c s archive sound defined guest some most disciplined =
+    let m = opening c in
+    let memory = opening_memory c guest in
+    (lacking_keeps guest (asid_of c.guests guest) archive m memory s defined (disciplined_lacks guest m memory s disciplined) (opening_keeps c guest archive sound some most)).core
 
--- and each declared guest's private accesses are one legal history of its memory
-pub guest_memory_legal : (c : Scenario) (s : List ℕ) → IsSound c → IsDefined c s → (guest : ℕ) → 0 < guest → guest ≤ length c.guests → IsLegal c s guest
-guest_memory_legal c s sound defined guest some most =
-    run_legal guest (asid_of c.guests guest) (λ _. None) (opening c) (opening_memory c guest) s defined (opening_keeps c guest (λ _. None) sound some most)
+-- the private accesses of a guest are one legal history of its memory where no PVALIDATE that answers carry flag 0 names a page that it holds
+pub lacking_guest_legal : (c : Scenario) (s : List ℕ) → IsSound c → IsDefined c s → (guest : ℕ) → 0 < guest → guest ≤ length c.guests → IsLacking c s guest → IsLegal c s guest
+lacking_guest_legal c s sound defined guest some most lacks =
+    lacking_legal guest (asid_of c.guests guest) (λ _. None) (opening c) (opening_memory c guest) s defined lacks (opening_keeps c guest (λ _. None) sound some most)
+
+-- so where the guest is disciplined, which asks it of each PVALIDATE, whatever its carry flag
+pub guest_memory_legal : (c : Scenario) (s : List ℕ) → IsSound c → IsDefined c s → (guest : ℕ) → 0 < guest → guest ≤ length c.guests → IsDisciplined c s guest → IsLegal c s guest
+guest_memory_legal c s sound defined guest some most disciplined =
+    lacking_guest_legal c s sound defined guest some most (disciplined_lacks guest (opening c) (opening_memory c guest) s disciplined)
 
 pub guests_are_legal : (c : Scenario) (s : List ℕ) → IsSound c → IsDefined c s → AreLegal c s
-guests_are_legal c s sound defined guest some most = guest_memory_legal c s sound defined guest some most
+guests_are_legal c s sound defined guest some most disciplined = guest_memory_legal c s sound defined guest some most disciplined

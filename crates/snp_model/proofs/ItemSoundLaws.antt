@@ -4,17 +4,19 @@ use Rattle.std.specs.Prelude.{codes, length, ◌==◌}
 use Rattle.snp_model.specs.declared.entry.PageSize.{PageSize}
 use Rattle.snp_model.specs.declared.reading.Reason.{Reason}
 use Rattle.snp_model.specs.declared.reading.Reason.TheVariants.{Form}
-use Rattle.snp_model.specs.declared.item.Item.TheVariants.{Access, Psmash, Rmpupdate, Skip}
+use Rattle.snp_model.specs.declared.item.Item.{Item}
+use Rattle.snp_model.specs.declared.item.Item.TheVariants.{Access, Psmash, Pvalidate, Rmpadjust, Rmpupdate, Skip}
 use Rattle.snp_model.specs.declared.item.Line.{Line}
 use Rattle.snp_model.specs.declared.item.Op.{Op}
 use Rattle.snp_model.specs.declared.item.Op.TheVariants.{Load, Store, Swap, Compare, Xor}
 use Rattle.snp_model.specs.declared.item.SkipTest.{SkipTest}
 use Rattle.snp_model.specs.declared.item.SkipTest.TheVariants.{Value}
 use Rattle.snp_model.specs.declared.item.Update.{Update}
+use Rattle.snp_model.specs.declared.scenario.Paging.{Paging}
 use Rattle.snp_model.specs.declared.scenario.Role.{Role}
 use Rattle.snp_model.specs.declared.scenario.Role.TheVariants.{Cpu, Host, Firmware}
-use Rattle.snp_model.specs.Bounds.{IsSkip, IsUpdate, IsItemOf, IsLineOf}
-use Rattle.snp_model.specs.ItemLines.{once, address_word, load_row, store_row, swap_row, cas_row, xor_row, skip_test, skip_row, skip_value_row, skip_item, access_item, size_word, flag_word, is_retry_row, retries_word, update_operands, update_row, smash_row, host_item, item_words}
+use Rattle.snp_model.specs.Bounds.{IsCpuItem, IsSkip, IsUpdate, IsItemOf, IsLineOf}
+use Rattle.snp_model.specs.ItemLines.{once, address_word, load_row, store_row, swap_row, cas_row, xor_row, skip_test, skip_row, skip_value_row, skip_item, access_item, size_word, flag_word, is_retry_row, retries_word, update_operands, update_row, smash_row, validate_row, adjust_operands, adjust_row, cpu_item, host_item, item_words}
 use Rattle.snp_model.specs.Lines.{◌>>=◌, ◌>>◌, below, fixed, is_row, multiple, number, ranged, word}
 use Rattle.snp_model.proofs.LineLaws.{below_multiple_ok, below_ok, bind_ok, multiple_ok, ranged_ok, select, then_ok}
 
@@ -183,7 +185,62 @@ host_item_ok frames ws line h =
     (λ _ h1. select (is_retry_row ws (codes "psmash") 2) (smash_row ws) (access_item Host frames ws) line P (λ _ made. smash_row_ok frames ws line made)
     (λ _ h2. access_item_ok frames Host ws line h2) h1) h
 
+validate_chain : (frames guest vmpl npt : ℕ) (paging : Paging) (address : Result ℕ Reason) (size : Result PageSize Reason) (validate : Result Bool Reason) (retries : Result ℕ Reason) (line : Line)
+    → ((n : ℕ) → retries ≡ Ok n → n < 256)
+    → (address >>= (λ (a : ℕ). size >>= (λ (s : PageSize). validate >>= (λ (b : Bool). retries >>= (λ (n : ℕ). Ok (let l : Line = record { item = Pvalidate a s b; retries = n } in l)))))) ≡ Ok line
+    → IsLineOf frames (Cpu guest vmpl npt paging) line
+validate_chain frames guest vmpl npt paging (Err e) size validate retries line few h = absurd (cc)
+validate_chain frames guest vmpl npt paging (Ok a) (Err e) validate retries line few h = absurd (cc)
+validate_chain frames guest vmpl npt paging (Ok a) (Ok s) (Err e) retries line few h = absurd (cc)
+validate_chain frames guest vmpl npt paging (Ok a) (Ok s) (Ok b) (Err e) line few h = absurd (cc)
+validate_chain frames guest vmpl npt paging (Ok a) (Ok s) (Ok b) (Ok n) line few h =
+    let made : Line = record { item = Pvalidate a s b; retries = n } in
+    let same : made ≡ line = cc in
+    subst (IsLineOf frames (Cpu guest vmpl npt paging)) same (record { item = tt; retries = few n refl })
+
+validate_row_ok : (frames guest vmpl npt : ℕ) (paging : Paging) (ws : List (List ℕ)) (line : Line) → validate_row ws ≡ Ok line → IsLineOf frames (Cpu guest vmpl npt paging) line
+unfolding validate_row
+validate_row_ok frames guest vmpl npt paging ws line h =
+    validate_chain frames guest vmpl npt paging (number (word ws 1)) (size_word (word ws 2)) (flag_word (word ws 3)) (retries_word ws 4) line (retries_ok ws 4) h
+
+adjust_chain : (address : Result ℕ Reason) (size : Result PageSize Reason) (target mask : Result ℕ Reason) (vmsa : Result Bool Reason) (item : Item)
+    → ((n : ℕ) → target ≡ Ok n → n < 256) → ((n : ℕ) → mask ≡ Ok n → n < 256)
+    → (address >>= (λ (a : ℕ). size >>= (λ (s : PageSize). target >>= (λ (t : ℕ). mask >>= (λ (m : ℕ). vmsa >>= (λ (v : Bool). Ok (Rmpadjust a s t m v))))))) ≡ Ok item
+    → IsCpuItem item
+adjust_chain (Err e) size target mask vmsa item b1 b2 h = absurd (cc)
+adjust_chain (Ok a) (Err e) target mask vmsa item b1 b2 h = absurd (cc)
+adjust_chain (Ok a) (Ok s) (Err e) mask vmsa item b1 b2 h = absurd (cc)
+adjust_chain (Ok a) (Ok s) (Ok t) (Err e) vmsa item b1 b2 h = absurd (cc)
+adjust_chain (Ok a) (Ok s) (Ok t) (Ok m) (Err e) item b1 b2 h = absurd (cc)
+adjust_chain (Ok a) (Ok s) (Ok t) (Ok m) (Ok v) item b1 b2 h =
+    let same : Rmpadjust a s t m v ≡ item = cc in
+    subst IsCpuItem same (b1 t refl, b2 m refl)
+
+adjust_operands_ok : (ws : List (List ℕ)) (item : Item) → adjust_operands ws ≡ Ok item → IsCpuItem item
+unfolding adjust_operands
+adjust_operands_ok ws item h =
+    adjust_chain (number (word ws 1)) (size_word (word ws 2)) (below 256 (word ws 3)) (below 256 (word ws 4)) (flag_word (word ws 5)) item (below_ok _ _) (below_ok _ _) h
+
+adjust_row_ok : (frames guest vmpl npt : ℕ) (paging : Paging) (ws : List (List ℕ)) (line : Line) → adjust_row ws ≡ Ok line → IsLineOf frames (Cpu guest vmpl npt paging) line
+unfolding adjust_row
+adjust_row_ok frames guest vmpl npt paging ws line h =
+    let item = bind_ok (adjust_operands ws) (λ (i : Item). retries_word ws 6 >>= (λ (n : ℕ). Ok (let l : Line = record { item = i; retries = n } in l))) line h in
+    let retries = bind_ok (retries_word ws 6) (λ (n : ℕ). Ok (let l : Line = record { item = item.0; retries = n } in l)) line item.2 in
+    let made : Line = record { item = item.0; retries = retries.0 } in
+    let same : made ≡ line = let e = retries.2 in cc in
+    subst (IsLineOf frames (Cpu guest vmpl npt paging)) same (record { item = adjust_operands_ok ws item.0 item.1; retries = retries_ok ws 6 retries.0 retries.1 })
+
+cpu_item_ok : (frames guest vmpl npt : ℕ) (paging : Paging) (ws : List (List ℕ)) (line : Line) → cpu_item (Cpu guest vmpl npt paging) frames ws ≡ Ok line → IsLineOf frames (Cpu guest vmpl npt paging) line
+unfolding cpu_item
+cpu_item_ok frames guest vmpl npt paging ws line h =
+    let role = Cpu guest vmpl npt paging in
+    let P = IsLineOf frames role line in
+    let adjust : Result Line Reason = cond (is_retry_row ws (codes "rmpadjust") 6) (adjust_row ws) (access_item role frames ws) in
+    select (is_retry_row ws (codes "pvalidate") 4) (validate_row ws) adjust line P (λ _ made. validate_row_ok frames guest vmpl npt paging ws line made)
+    (λ _ h1. select (is_retry_row ws (codes "rmpadjust") 6) (adjust_row ws) (access_item role frames ws) line P (λ _ made. adjust_row_ok frames guest vmpl npt paging ws line made)
+    (λ _ h2. access_item_ok frames role ws line h2) h1) h
+
 pub item_ok : (frames : ℕ) (role : Role) (ws : List (List ℕ)) (line : Line) → item_words role frames ws ≡ Ok line → IsLineOf frames role line
-item_ok frames (Cpu guest vmpl npt paging) ws line h = access_item_ok frames (Cpu guest vmpl npt paging) ws line h
+item_ok frames (Cpu guest vmpl npt paging) ws line h = cpu_item_ok frames guest vmpl npt paging ws line h
 item_ok frames Host ws line h = host_item_ok frames ws line h
 item_ok frames Firmware ws line h = skip_item_ok frames Firmware ws line h

@@ -1,5 +1,5 @@
 -- Pages of 2 MB stay whole at every event of an item that a scenario may have.
-use Rattle.std.proofs.Common.{◌≡◌, ℕ, ◌-◌, false, List, [], ◌∷◌, Option, Some, None, sym, ap}
+use Rattle.std.proofs.Common.{◌≡◌, ℕ, false, List, [], ◌∷◌, Option, Some, None, sym, ap}
 use Rattle.std.proofs.lemmas.Bool.{true≢false}
 use Rattle.snp_model.specs.declared.event.Outcome.{Outcome}
 use Rattle.snp_model.specs.declared.item.Item.{Item}
@@ -9,14 +9,11 @@ use Rattle.snp_model.specs.declared.scenario.Role.{Role}
 use Rattle.snp_model.specs.declared.scenario.Role.TheVariants.{Cpu, Host, Firmware}
 use Rattle.snp_model.specs.HeldLocks.{IsUpdateLock, IsSmashLock, IsOneLock, AreItemLocks}
 use Rattle.snp_model.specs.InstructionStep.{update_move, smash_move}
-use Rattle.snp_model.specs.KeptLocks.{KeepsLocks}
 use Rattle.snp_model.specs.Locks.{locks_frame, view_of}
 use Rattle.snp_model.specs.Moves.{Move, lock_move}
-use Rattle.snp_model.specs.OpenAttempts.{IsWalking}
-use Rattle.snp_model.specs.State.{Pages, PageLock, Contents, Standing, nothing_taken, ActorPart, State, View, part_of, idle_part}
-use Rattle.snp_model.specs.Step.{item_move, line_at, after}
+use Rattle.snp_model.specs.State.{Pages, PageLock, Contents, Standing, nothing_taken, ActorPart, State, View, idle_part}
+use Rattle.snp_model.specs.Step.{item_move}
 use Rattle.snp_model.proofs.LargePages.{AreLargeWhole, small_changes_whole}
-use Rattle.snp_model.proofs.LockedLaws.{move_locks}
 use Rattle.snp_model.proofs.LockedMoves.{MoveLocks}
 use Rattle.snp_model.proofs.TestedRanges.{updated_large, smashed_large}
 use Rattle.snp_model.proofs.UseLaws.{IsProved}
@@ -83,10 +80,3 @@ item_large m part Firmware (items.Rmpupdate update) known tested locks whole = i
 item_large m part Firmware (items.Psmash frame) known tested locks whole = idle_large m part Firmware (items.Psmash frame) _ tested locks whole
 item_large m part Firmware (items.Firmware command) known tested locks whole = absurd known
 item_large m part Firmware (items.Skip count test) known tested locks whole = idle_large m part Firmware (items.Skip count test) _ tested locks whole
-
-pub step_large : (m : State) (actor : ℕ) → KeepsLocks m → IsWalking m.frames (part_of m actor) → IsProved (part_of m actor).role (line_at (part_of m actor).script (part_of m actor).item).item
-    → AreLargeWhole m.contents.pages → AreLargeWhole (after m actor).contents.pages
-unfolding after
-step_large m actor keeps walking known whole =
-    let part = part_of m actor in
-    (item_large m part part.role (line_at part.script part.item).item known (keeps.tested (actor - 1)) (move_locks m actor keeps walking) whole).large

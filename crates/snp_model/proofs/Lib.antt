@@ -8,7 +8,6 @@ pub mod ContextLaws
 pub mod CoreLaws
 pub mod DisciplineLaws
 pub mod DisciplinedItems
-pub mod DisciplinedLaws
 pub mod EntriesLaws
 pub mod FindingLaws
 pub mod FirmwareLocality

@@ -204,7 +204,7 @@ validate_from m part cpu address size validate [] none stands =
     (validate_unheld place size facts holder) (validate_freed place size facts holder) stands.tested (λ tested. tested))
 validate_from m part cpu address size validate (lock ∷ others) some stands =
     let item = items.Pvalidate address size validate in
-    let come = has_come m part cpu address (validate_test size) lock others some stands.tested stands.walking in
+    let come = has_come m part cpu address (validate_test size) lock others some stands.tested stands.walking.walk in
     let arrives = validate_move m.guests (view_of m) part cpu size validate (lock ∷ others) in
     let own = facts_of m.contents lock.frame in
     let pages = m.contents.pages in
@@ -238,7 +238,7 @@ adjust_from m part cpu address size target mask vmsa [] none stands =
     (adjust_unheld place size mask vmsa facts holder) (adjust_freed place size mask vmsa facts holder) stands.tested (λ tested. tested))
 adjust_from m part cpu address size target mask vmsa (lock ∷ others) some stands =
     let item = items.Rmpadjust address size target mask vmsa in
-    let come = has_come m part cpu address (adjust_test size mask vmsa) lock others some stands.tested stands.walking in
+    let come = has_come m part cpu address (adjust_test size mask vmsa) lock others some stands.tested stands.walking.walk in
     let arrives = adjust_move m.guests (view_of m) part cpu size target mask vmsa (lock ∷ others) in
     let pages = m.contents.pages in
     let new = pages_adjusted cpu.vmpl target mask vmsa lock pages in

@@ -23,7 +23,7 @@ use Rattle.snp_model.specs.declared.walk.Need.{Need}
 use Rattle.snp_model.specs.declared.walk.Need.TheVariants as needs
 use Rattle.snp_model.specs.GuestWalk.{levels_of, is_canonical}
 use Rattle.snp_model.specs.Locks.{view_of}
-use Rattle.snp_model.specs.OpenAttempts.{CallsFor, AreCalledFor, IsWalk, IsLockingWalk, IsLocking, IsAttempt, IsWalking, AreWalking, ReadsMemory}
+use Rattle.snp_model.specs.OpenAttempts.{CallsFor, AreCalledFor, IsWalk, IsLockingWalk, IsLockingAttempt, IsLocking, IsAttempt, IsWalking, AreWalking, ReadsMemory}
 use Rattle.snp_model.specs.Opening.{opening, opening_part}
 use Rattle.snp_model.specs.Run.{state_from, state_after, IsDefinedFrom, IsDefined}
 use Rattle.snp_model.specs.InstructionStep.{page_lookup, validate_begin, validate_move, adjust_begin, adjust_move, update_move, smash_move}
@@ -181,6 +181,32 @@ locking_stays frames guests contents part cpu lookup refusal arrives (lock ∷ o
     let ends = commits_at lock others has.gpn has.private lock.frame has.leaf in
     record { open_is = λ e. let outcome = ap (λ (m : Move). m.outcome) move ∙ ends.1 in cc }
 
+-- an event after which an item has begun, and goes on, is one of an item that is refused with nothing as it begins
+record Admits (refusal : Option Outcome) (move : Move) : Type 0 where
+  admitted : move.outcome ≡ None → refusal ≡ None
+
+begin_admits : (contents : Contents) (part : ActorPart) (context : Context) (levels address : ℕ) (refusal : Option Outcome) → Admits refusal (begin_move contents part context levels address refusal)
+unfolding begin_move
+begin_admits contents part context levels address refusal =
+    let P = Admits refusal in
+    cond_both (not (is_running context.state)) _ _ P (λ _. record { admitted = λ e. cc })
+    (λ _. cond_both (not (is_canonical levels address)) _ _ P (λ _. record { admitted = λ e. cc }) (λ _. record { admitted = λ e. e }))
+
+walked_admits : (frames : ℕ) (guests : List GuestSpec) (contents : Contents) (part : ActorPart) (cpu : Processor) (lookup : Lookup) (refusal : Option Outcome) (arrives : Arrival) (made : List Deed)
+    → (0 < length made → refusal ≡ None) → Admits refusal (walked_move frames guests contents part cpu lookup refusal arrives made)
+unfolding walked_move
+walked_admits frames guests contents part cpu lookup refusal arrives [] before = begin_admits contents part (contents.contexts cpu.guest) (levels_of cpu.paging) lookup.address refusal
+walked_admits frames guests contents part cpu lookup refusal arrives (first ∷ others) before = record { admitted = λ _. before (omega arith) }
+
+-- so its attempt stays as it is to be
+attempt_stays : (frames : ℕ) (guests : List GuestSpec) (contents : Contents) (part : ActorPart) (cpu : Processor) (lookup : Lookup) (refusal : Option Outcome) (arrives : List PageLock → Arrival)
+    → LocksAt part (arrives []) → ((lock : PageLock) (others : List PageLock) → CommitsAt (arrives (lock ∷ others))) → IsLockingAttempt frames cpu lookup refusal part.standing.locks part.deeds
+    → Stays (IsLockingAttempt frames cpu lookup refusal) part (walked_move frames guests contents part cpu lookup refusal (arrives part.standing.locks) part.deeds)
+attempt_stays frames guests contents part cpu lookup refusal arrives locks_at commits_at is =
+    let stays = locking_stays frames guests contents part cpu lookup refusal arrives part.standing.locks locks_at commits_at refl is.walk in
+    let admits = walked_admits frames guests contents part cpu lookup refusal (arrives part.standing.locks) part.deeds is.admitted in
+    record { open_is = λ goes_on. record { walk = stays.open_is goes_on; admitted = λ _. admits.admitted goes_on } }
+
 validate_locks : (guests : List GuestSpec) (view : View) (part : ActorPart) (cpu : Processor) (size : PageSize) (validate : Bool) → LocksAt part (validate_move guests view part cpu size validate [])
 unfolding validate_move
 validate_locks guests view part cpu size validate gpn private frame leaf = (_, _, _, refl, refl)
@@ -236,14 +262,14 @@ move_stays frames guests view part (Cpu guest vmpl npt paging) (items.Access add
     (λ gpn private frame size need. access_stays (λ locks. IsWalk frames cpu lookup) view.contents part _ _ op frame _) refl is)
 move_stays frames guests view part (Cpu guest vmpl npt paging) (items.Pvalidate address size validate) is =
     let cpu : Processor = record { guest = guest; vmpl = vmpl; npt = npt; paging = paging } in
-    by_locks (IsLockingWalk frames cpu (page_lookup address)) part _
-    (locking_stays frames guests view.contents part cpu (page_lookup address) (validate_begin cpu address size) (validate_move guests view part cpu size validate) part.standing.locks
-    (validate_locks guests view part cpu size validate) (validate_commits guests view part cpu size validate) refl is)
+    by_locks (IsLockingAttempt frames cpu (page_lookup address) (validate_begin cpu address size)) part _
+    (attempt_stays frames guests view.contents part cpu (page_lookup address) (validate_begin cpu address size) (validate_move guests view part cpu size validate)
+    (validate_locks guests view part cpu size validate) (validate_commits guests view part cpu size validate) is)
 move_stays frames guests view part (Cpu guest vmpl npt paging) (items.Rmpadjust address size target mask vmsa) is =
     let cpu : Processor = record { guest = guest; vmpl = vmpl; npt = npt; paging = paging } in
-    by_locks (IsLockingWalk frames cpu (page_lookup address)) part _
-    (locking_stays frames guests view.contents part cpu (page_lookup address) (adjust_begin cpu address size target mask) (adjust_move guests view part cpu size target mask vmsa) part.standing.locks
-    (adjust_locks guests view part cpu size target mask vmsa) (adjust_commits guests view part cpu size target mask vmsa) refl is)
+    by_locks (IsLockingAttempt frames cpu (page_lookup address) (adjust_begin cpu address size target mask)) part _
+    (attempt_stays frames guests view.contents part cpu (page_lookup address) (adjust_begin cpu address size target mask) (adjust_move guests view part cpu size target mask vmsa)
+    (adjust_locks guests view part cpu size target mask vmsa) (adjust_commits guests view part cpu size target mask vmsa) is)
 move_stays frames guests view part (Cpu guest vmpl npt paging) (items.Rmpupdate update) is = record { open_is = λ e. cc }
 move_stays frames guests view part (Cpu guest vmpl npt paging) (items.Psmash frame) is = record { open_is = λ e. cc }
 move_stays frames guests view part (Cpu guest vmpl npt paging) (items.Firmware command) is = record { open_is = λ e. cc }
@@ -267,8 +293,8 @@ move_stays frames guests view part Firmware (items.Skip count test) is = record 
 no_deeds : (frames : ℕ) (role : Role) (item : Item) → IsAttempt frames role item nothing_taken []
 unfolding IsAttempt IsWalk
 no_deeds frames (Cpu guest vmpl npt paging) (items.Access address op) = tt
-no_deeds frames (Cpu guest vmpl npt paging) (items.Pvalidate address size validate) = tt
-no_deeds frames (Cpu guest vmpl npt paging) (items.Rmpadjust address size target mask vmsa) = tt
+no_deeds frames (Cpu guest vmpl npt paging) (items.Pvalidate address size validate) = record { walk = tt; admitted = λ begun. absurd (omega arith) }
+no_deeds frames (Cpu guest vmpl npt paging) (items.Rmpadjust address size target mask vmsa) = record { walk = tt; admitted = λ begun. absurd (omega arith) }
 no_deeds frames (Cpu guest vmpl npt paging) (items.Rmpupdate update) = refl
 no_deeds frames (Cpu guest vmpl npt paging) (items.Psmash frame) = refl
 no_deeds frames (Cpu guest vmpl npt paging) (items.Firmware command) = refl

@@ -22,12 +22,13 @@ use Rattle.snp_model.specs.Shapes.{AreFactsOf, IsWholePage}
 use Rattle.snp_model.specs.Sound.{IsGuest, IsActor, IsSound}
 use Rattle.snp_model.specs.State.{Pages, idle_part, zero_words}
 use Rattle.snp_model.proofs.CoreLaws.{KindFits, FrameCore, frames_core}
-use Rattle.snp_model.proofs.GuestMemoryLaws.{Keeps, actors_proved, opening_large, opening_locks, run_keeps}
+use Rattle.snp_model.proofs.GuestMemoryLaws.{Keeps, actors_no_commands, opening_large, opening_locks}
 use Rattle.snp_model.proofs.LargePages.{whole_page}
 use Rattle.snp_model.proofs.LockedRuns.{IsMetadataFirm, are_locked}
 use Rattle.snp_model.proofs.OpenAttemptsLaws.{opening_walking}
 use Rattle.snp_model.proofs.OpeningLaws.{opening_whole, opening_fits, opening_dead}
 use Rattle.snp_model.proofs.OpeningParts.{opening_shaped}
+use Rattle.snp_model.proofs.UnownedLaws.{unowned_keeps, opening_others}
 use Rattle.snp_model.proofs.UseLaws.{RoleOwns, metadata_not_plain}
 
 -- nobody is guest 0, and ASID 0 is nobody's: of it no page is ever held
@@ -71,14 +72,14 @@ opening_keeps_none c archive sound =
       whole = opening_whole c.words;
       fits = opening_fits c.guests c.pages words;
       owns = λ actor. actors_own c.guests _ c.actors (actor - 1) sound.guests sound.actors;
-      known = λ actor. actors_proved _ _ c.actors (actor - 1) sound.actors;
+      known = λ actor. actors_no_commands _ _ c.actors (actor - 1) sound.actors;
       locks = opening_locks c sound;
       walking = opening_walking c;
       large = opening_large c sound;
     }
 
 state_keeps : (c : Scenario) (s : List ℕ) → IsSound c → IsDefined c s → Keeps 0 0 (λ _. None) (state_after c s) (memory_from 0 (opening c) empty s)
-state_keeps c s sound defined = run_keeps 0 0 (λ _. None) (opening c) empty s defined (opening_keeps_none c (λ _. None) sound)
+state_keeps c s sound defined = unowned_keeps 0 0 (λ _. None) (opening c) empty s defined (opening_others c sound) (opening_keeps_none c (λ _. None) sound)
 
 -- one holder for each lock, whole pages of 2 MB by their sizes, and what was tested
 pub run_keeps_all_locks : (c : Scenario) (s : List ℕ) → IsSound c → IsDefined c s → KeepsLocks (state_after c s)

@@ -280,8 +280,8 @@ pub attempt_short : (frames : ℕ) (role : Role) (item : Item) (standing : Stand
 unfolding IsAttempt
 attempt_short frames (Cpu guest vmpl npt paging) (items.Access address op) standing made is =
     let few = walk_few frames (record { guest = guest; vmpl = vmpl; npt = npt; paging = paging }) (lookup_of address op) made is in omega arith
-attempt_short frames (Cpu guest vmpl npt paging) (items.Pvalidate address size validate) standing made is = locking_few frames (record { guest = guest; vmpl = vmpl; npt = npt; paging = paging }) (page_lookup address) standing.locks made is
-attempt_short frames (Cpu guest vmpl npt paging) (items.Rmpadjust address size target mask vmsa) standing made is = locking_few frames (record { guest = guest; vmpl = vmpl; npt = npt; paging = paging }) (page_lookup address) standing.locks made is
+attempt_short frames (Cpu guest vmpl npt paging) (items.Pvalidate address size validate) standing made is = locking_few frames (record { guest = guest; vmpl = vmpl; npt = npt; paging = paging }) (page_lookup address) standing.locks made is.walk
+attempt_short frames (Cpu guest vmpl npt paging) (items.Rmpadjust address size target mask vmsa) standing made is = locking_few frames (record { guest = guest; vmpl = vmpl; npt = npt; paging = paging }) (page_lookup address) standing.locks made is.walk
 attempt_short frames (Cpu guest vmpl npt paging) (items.Rmpupdate update) standing made is = none_few made is
 attempt_short frames (Cpu guest vmpl npt paging) (items.Psmash frame) standing made is = none_few made is
 attempt_short frames (Cpu guest vmpl npt paging) (items.Firmware command) standing made is = none_few made is

@@ -20,7 +20,7 @@ use Rattle.snp_model.specs.Sound.{IsSound, IsActor}
 use Rattle.snp_model.specs.State.{Contents, State, part_of, idle_part}
 use Rattle.snp_model.specs.Step.{line_at, event_of, after}
 use Rattle.snp_model.proofs.DisciplinedItems.{IsNoCommand}
-use Rattle.snp_model.proofs.DisciplinedLaws.{KeepsMemory, step_keeps}
+use Rattle.snp_model.proofs.GuestMemoryLaws.{Keeps, step_keeps}
 use Rattle.snp_model.proofs.RunLaws.{after_keeps}
 use Rattle.snp_model.proofs.ValidateUseLaws.{LacksAccepted}
 
@@ -60,8 +60,8 @@ others_after : (guest : ℕ) (m : State) (actor : ℕ) → AreOthers guest m →
 others_after guest m actor others other = subst (IsOthers guest) (sym (after_keeps m actor other).role) (others other)
 
 -- a run from a state on
-pub unowned_keeps : (guest asid : ℕ) (archive : Archive) (m : State) (memory : Memory) (s : List ℕ) → IsDefinedFrom m s → AreOthers guest m → KeepsMemory guest asid archive m memory
-    → KeepsMemory guest asid archive (state_from m s) (memory_from guest m memory s)
+pub unowned_keeps : (guest asid : ℕ) (archive : Archive) (m : State) (memory : Memory) (s : List ℕ) → IsDefinedFrom m s → AreOthers guest m → Keeps guest asid archive m memory
+    → Keeps guest asid archive (state_from m s) (memory_from guest m memory s)
 unfolding state_from memory_from IsDefinedFrom
 unowned_keeps guest asid archive m memory [] defined others keeps = keeps
 unowned_keeps guest asid archive m memory (a ∷ s) defined others keeps =

@@ -1,5 +1,5 @@
 -- A guest's private memory as the guest may rely on it: what its own events find there and leave there, and what was launched into it. No rule here but those of the opening and of the launch knows a frame; none knows an entry of the RMP or a page table. This project's own.
-use Rattle.std.specs.Prelude.{◌≡◌, ℕ, zero, suc, ◌+◌, ◌<◌, ◌≤◌, ◌==◌, Bool, true, not, ◌&&◌, ◌||◌, ◌≢◌, bit_xor, if◌then◌else◌, List, [], ◌∷◌, length, map, replicate, slice_index_or, slice_set, Option, Some, None, unwrap_or}
+use Rattle.std.specs.Prelude.{◌≡◌, ℕ, zero, suc, ◌+◌, ◌==◌, Bool, true, not, ◌&&◌, ◌||◌, ◌≢◌, bit_xor, if◌then◌else◌, List, [], ◌∷◌, map, replicate, slice_index_or, slice_set, Option, Some, None, unwrap_or}
 use Rattle.std.specs.FinMap.{FinMap, empty, get, insert, remove}
 use Rattle.std.specs.Option.{option_map}
 use Rattle.std.specs.Ordering.{nat_cmp}

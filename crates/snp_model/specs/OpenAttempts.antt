@@ -1,9 +1,10 @@
--- What an open attempt has done: the reads of a guest processor's item are those that its walks call for, one after the other, and an instruction may then have taken its lock (APM volume 2, 5.3 and 15.25.6); a command of the firmware has taken its locks in their order (after the SEV-SNP firmware ABI 56860, chapter 8). The division into events is this project's own.
+-- What an open attempt has done: the reads of a guest processor's item are those that its walks call for, one after the other, where nothing refused an instruction as it began, and an instruction may then have taken its lock (APM volume 2, 5.3 and 15.25.6); a command of the firmware has taken its locks in their order (after the SEV-SNP firmware ABI 56860, chapter 8). The division into events is this project's own.
 use Rattle.std.specs.Prelude.{◌≡◌, ◌⊎◌, ℕ, ◌<◌, Bool, true, List, [], ◌∷◌, ◌++◌, All, length, map, Option, Some, None, IsSome}
 use Rattle.snp_model.specs.declared.command.Command.{Command}
 use Rattle.snp_model.specs.declared.entry.PageSize.{PageSize}
 use Rattle.snp_model.specs.declared.event.Deed.{Deed}
 use Rattle.snp_model.specs.declared.event.Deed.TheVariants as deeds
+use Rattle.snp_model.specs.declared.event.Outcome.{Outcome}
 use Rattle.snp_model.specs.declared.item.Item.{Item}
 use Rattle.snp_model.specs.declared.item.Item.TheVariants as items
 use Rattle.snp_model.specs.declared.scenario.Role.{Role}
@@ -12,7 +13,7 @@ use Rattle.snp_model.specs.declared.walk.Lookup.{Lookup}
 use Rattle.snp_model.specs.declared.walk.Need.TheVariants as needs
 use Rattle.snp_model.specs.Firmware.{CommandPage, guest_of, pages_of}
 use Rattle.snp_model.specs.GuestWalk.{levels_of, is_canonical}
-use Rattle.snp_model.specs.InstructionStep.{page_lookup}
+use Rattle.snp_model.specs.InstructionStep.{page_lookup, validate_begin, adjust_begin}
 use Rattle.snp_model.specs.Locks.{page_lock}
 use Rattle.snp_model.specs.Sealing.{sealing_of}
 use Rattle.snp_model.specs.State.{PageLock, Computed, Standing, ActorPart, Contents, State, word_of, nothing_taken}
@@ -53,6 +54,12 @@ pub record HasLocked (frames : ℕ) (cpu : Processor) (lookup : Lookup) (lock : 
 abbrev pub IsLockingWalk : ℕ → Processor → Lookup → List PageLock → List Deed → Type 0
 IsLockingWalk frames cpu lookup [] made = IsWalk frames cpu lookup made
 IsLockingWalk frames cpu lookup (lock ∷ others) made = HasLocked frames cpu lookup lock made × (others ≡ [])
+
+-- an attempt of such an item, by what the item is refused with as it begins
+pub record IsLockingAttempt (frames : ℕ) (cpu : Processor) (lookup : Lookup) (refusal : Option Outcome) (locks : List PageLock) (made : List Deed) : Type 0 where
+  pub walk : IsLockingWalk frames cpu lookup locks made
+  -- one that has begun was refused with nothing
+  pub admitted : 0 < length made → refusal ≡ None
 
 -- an item that takes one lock at once
 abbrev pub IsLocking : List PageLock → List Deed → Type 0
@@ -99,9 +106,11 @@ unfoldable pub IsAttempt : ℕ → Role → Item → Standing → List Deed → 
 IsAttempt frames (Cpu guest vmpl npt paging) (items.Access address op) standing made =
     IsWalk frames (record { guest = guest; vmpl = vmpl; npt = npt; paging = paging }) (lookup_of address op) made
 IsAttempt frames (Cpu guest vmpl npt paging) (items.Pvalidate address size validate) standing made =
-    IsLockingWalk frames (record { guest = guest; vmpl = vmpl; npt = npt; paging = paging }) (page_lookup address) standing.locks made
+    let cpu : Processor = record { guest = guest; vmpl = vmpl; npt = npt; paging = paging } in
+    IsLockingAttempt frames cpu (page_lookup address) (validate_begin cpu address size) standing.locks made
 IsAttempt frames (Cpu guest vmpl npt paging) (items.Rmpadjust address size target mask vmsa) standing made =
-    IsLockingWalk frames (record { guest = guest; vmpl = vmpl; npt = npt; paging = paging }) (page_lookup address) standing.locks made
+    let cpu : Processor = record { guest = guest; vmpl = vmpl; npt = npt; paging = paging } in
+    IsLockingAttempt frames cpu (page_lookup address) (adjust_begin cpu address size target mask) standing.locks made
 IsAttempt frames (Cpu guest vmpl npt paging) (items.Rmpupdate update) standing made = made ≡ []
 IsAttempt frames (Cpu guest vmpl npt paging) (items.Psmash frame) standing made = made ≡ []
 IsAttempt frames (Cpu guest vmpl npt paging) (items.Firmware command) standing made = made ≡ []

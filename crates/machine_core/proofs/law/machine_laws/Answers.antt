@@ -18,7 +18,7 @@ pub returns-clause-ready : goal.returns-clause-ready
 returns-clause-ready c = λ scenario schedule valid defined. run_ready scenario schedule (valid_is_sound scenario valid) defined
 
 pub returns-clause-holders : goal.returns-clause-holders
-returns-clause-holders c = λ scenario schedule archive guest valid defined some most. state_keeps_core scenario schedule archive (valid_is_sound scenario valid) defined guest some most
+returns-clause-holders c = λ scenario schedule archive guest valid defined some most disciplined. state_keeps_core scenario schedule archive (valid_is_sound scenario valid) defined guest some most disciplined
 
 pub returns-clause-locked : goal.returns-clause-locked
 returns-clause-locked c = λ scenario schedule valid defined. run_locked scenario schedule (valid_is_sound scenario valid) defined
