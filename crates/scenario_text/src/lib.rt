@@ -3,6 +3,8 @@
 
 mod draft;
 mod fault;
+#[cfg(test)]
+mod item_tests;
 pub mod laws;
 mod reading;
 mod rows;

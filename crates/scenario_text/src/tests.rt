@@ -1,8 +1,8 @@
+use crate::item_tests::{CPU, FREEING, access, compare, once, pvalidate, retried, rmpadjust, skip};
 use crate::{ScenarioFault, read_scenario};
-use script_text::read_item;
 use snp_model::{
-    GuestSpec, Item, Line, Op, PageSize, PageSpec, Paging, Quantity, Reason, Role, Scenario,
-    SkipTest, Turn, Update, WordSpec,
+    GuestSpec, Item, Op, PageSize, PageSpec, Paging, Quantity, Reason, Role, Scenario, SkipTest,
+    Turn, WordSpec,
 };
 use std::alloc::Global;
 use std::test::Fail;
@@ -299,30 +299,7 @@ fn is_limited(alloc: Global, text: &str, of: Quantity, most: u64) -> bool {
 
 // A text with a line of each form.
 const WHOLE: &str =
-    "snp 2\nregions 2\nguest 1 opened asid 5 iv 0 key 00000000000000000000000000000000000000000000000000000000000000ff\npage 0x3 of 1 at 7 4k invalid 1 2 0xf\npage 512 of 1 at 0xffffffe00 2m valid 4 5 6\npage 511 of 1 at 0xffffffdff 4k valid 0 0 0\nword 3 511 0xffffffffffffffff\n# actors\nactor 1 cpu 1 vmpl 3 npt 9 flat\nload 8\nstore 0xfffffffffffffff8 2\nswap 0x10 5\ncas 0x10 5 6\nxor 0x10 3\nskip 1 if ok\nactor 2 host\nstore 0x1ffff8 0\nload 0x1ffff8\nrmpupdate 3 4k 0 0 0 0\npsmash 512 retry 2\nskip 2 if bad\nskip 8192 if value 7\nactor 3 cpu 1 vmpl 1 npt 0x1ff gcr3 0xfffffffff\nload 0\nactor 4 cpu 1 vmpl 1 npt 511 la57 1\norder 1*2 2\n\norder 7\nend\n";
-
-fn access(address: u64, op: Op) -> Item {
-    Item::Access { address, op }
-}
-
-fn compare(address: u64, expected: u64, next: u64) -> Item {
-    access(address, Op::Compare { expected, next })
-}
-
-fn skip(count: u32, test: SkipTest) -> Item {
-    Item::Skip { count, test }
-}
-
-fn once(item: Item) -> Line {
-    Line { item, retries: 0 }
-}
-
-const CPU: Role = Role::Cpu {
-    guest: 1,
-    vmpl: 3,
-    npt: 9,
-    paging: Paging::Flat,
-};
+    "snp 2\nregions 2\nguest 1 opened asid 5 iv 0 key 00000000000000000000000000000000000000000000000000000000000000ff\npage 0x3 of 1 at 7 4k invalid 1 2 0xf\npage 512 of 1 at 0xffffffe00 2m valid 4 5 6\npage 511 of 1 at 0xffffffdff 4k valid 0 0 0\nword 3 511 0xffffffffffffffff\n# actors\nactor 1 cpu 1 vmpl 3 npt 9 flat\nload 8\nstore 0xfffffffffffffff8 2\nswap 0x10 5\ncas 0x10 5 6\nxor 0x10 3\nskip 1 if ok\npvalidate 0x200000 2m 1 retry 3\nrmpadjust 0x200000 2m 3 0xf 0\nactor 2 host\nstore 0x1ffff8 0\nload 0x1ffff8\nrmpupdate 3 4k 0 0 0 0\npsmash 512 retry 2\nskip 2 if bad\nskip 8192 if value 7\nactor 3 cpu 1 vmpl 1 npt 0x1ff gcr3 0xfffffffff\nload 0\nactor 4 cpu 1 vmpl 1 npt 511 la57 1\norder 1*2 2\n\norder 7\nend\n";
 
 // A processor whose guest tables begin at the last guest page, in the last frame of a region.
 const WITH_TABLES: Role = Role::Cpu {
@@ -339,255 +316,6 @@ const WITH_FIVE_LEVELS: Role = Role::Cpu {
     npt: 511,
     paging: Paging::Five(1),
 };
-
-// Lines of items that are refused in a memory of one region, whose last address is 0x1fffff.
-const REFUSED_ITEMS: [(Role, &str, Reason); 60] = [
-    (CPU, "load", Reason::Form),
-    (CPU, "load ", Reason::Number),
-    (CPU, "load 0xc", Reason::Align),
-    (CPU, "load 0x10 5", Reason::Form),
-    (CPU, "swap 0x10", Reason::Form),
-    (CPU, "swap 0x10 5 6", Reason::Form),
-    (CPU, "swap ten 5", Reason::Number),
-    (CPU, "swap 0x11 five", Reason::Align),
-    (CPU, "swap 0x10 five", Reason::Number),
-    (CPU, "cas 0x10 5", Reason::Form),
-    (CPU, "cas 0x10 5 6 7", Reason::Form),
-    (CPU, "cas 0xA 5 6", Reason::Number),
-    (CPU, "cas 0x14 5 6", Reason::Align),
-    (CPU, "cas 0x10 05 6", Reason::Number),
-    (CPU, "cas 0x10 5 -6", Reason::Number),
-    (CPU, "xor 0x10", Reason::Form),
-    (CPU, "xor 0x10 3 3", Reason::Form),
-    (CPU, "xor  3", Reason::Number),
-    (CPU, "xor 4 3", Reason::Align),
-    (CPU, "xor 8 18446744073709551616", Reason::Number),
-    (CPU, "Swap 0x10 5", Reason::Form),
-    (CPU, "cas 0x10 5 6 retry 1", Reason::Form),
-    (Role::Host, "load 0x200000", Reason::Range),
-    (Role::Host, "load 0x200001", Reason::Range),
-    (Role::Host, "load 0x1ffff9", Reason::Align),
-    (Role::Host, "load x", Reason::Number),
-    (Role::Host, "load", Reason::Form),
-    (Role::Host, "swap 0x200000 five", Reason::Range),
-    (Role::Host, "swap 4 five", Reason::Align),
-    (Role::Host, "swap 8 five", Reason::Number),
-    (Role::Host, "swap 8", Reason::Form),
-    (Role::Host, "cas 0x200004 5 6", Reason::Range),
-    (Role::Host, "cas 1 5 6", Reason::Align),
-    (Role::Host, "cas 0 5 0x", Reason::Number),
-    (Role::Host, "cas 0 5", Reason::Form),
-    (Role::Host, "xor 0xffffffffffffffff 1", Reason::Range),
-    (Role::Host, "xor 9 1", Reason::Align),
-    (Role::Host, "xor 8 y", Reason::Number),
-    (Role::Host, "xor 8", Reason::Form),
-    (CPU, "skip 0 if ok", Reason::Range),
-    (Role::Host, "skip 8193 if bad", Reason::Range),
-    (
-        Role::Firmware,
-        "skip 18446744073709551615 if ok",
-        Reason::Range,
-    ),
-    (CPU, "skip one if ok", Reason::Number),
-    (Role::Host, "skip 01 if bad", Reason::Number),
-    (CPU, "skip 0 when ok", Reason::Range),
-    (CPU, "skip 1 when ok", Reason::Form),
-    (CPU, "skip 1 if good", Reason::Form),
-    (CPU, "skip 1 if value", Reason::Form),
-    (CPU, "skip 1 if", Reason::Form),
-    (CPU, "skip 1 if ok 5", Reason::Form),
-    (Role::Host, "skip 0 if value 5", Reason::Range),
-    (Role::Host, "skip 8193 if value five", Reason::Range),
-    (Role::Firmware, "skip x if value 5", Reason::Number),
-    (CPU, "skip 1 when value five", Reason::Form),
-    (CPU, "skip 1 if values five", Reason::Form),
-    (Role::Host, "skip 1 if value five", Reason::Number),
-    (CPU, "skip 1 if value 5 6", Reason::Form),
-    (Role::Firmware, "load 0x10", Reason::Form),
-    (Role::Firmware, "swap 0x10 5", Reason::Form),
-    (Role::Firmware, "skip", Reason::Form),
-];
-
-fn is_refused_item(role: &Role, line: &str, why: Reason) -> bool {
-    match read_item(role, line.as_bytes(), 512) {
-        Err(reason) => reason == why,
-        Ok(_) => false,
-    }
-}
-
-fn is_line(role: &Role, line: &str, expected: Line) -> bool {
-    match read_item(role, line.as_bytes(), 512) {
-        Ok(read) => read == expected,
-        Err(_) => false,
-    }
-}
-
-fn is_item(role: &Role, line: &str, item: Item) -> bool {
-    is_line(role, line, once(item))
-}
-
-#[test]
-fn lines_of_items(rt: HostRuntime) {
-    for (role, line, reason) in REFUSED_ITEMS {
-        assert!(rt; is_refused_item(&role, line, reason), "{line}");
-    }
-    for (role, line, item) in [
-        (CPU, "load 8", access(8, Op::Load)),
-        (
-            CPU,
-            "store 0xfffffffffffffff8 2",
-            access(u64::MAX - 7, Op::Store(2)),
-        ),
-        (CPU, "swap 0x10 5", access(16, Op::Swap(5))),
-        (CPU, "cas 16 0x5 6", compare(16, 5, 6)),
-        (
-            CPU,
-            "cas 0xfffffffffffffff8 0 0xffffffffffffffff",
-            compare(u64::MAX - 7, 0, u64::MAX),
-        ),
-        (
-            CPU,
-            "xor 0xfffffffffffffff8 3",
-            access(u64::MAX - 7, Op::Xor(3)),
-        ),
-        (Role::Host, "load 0x1ffff8", access(0x1f_fff8, Op::Load)),
-        (Role::Host, "store 0 0", access(0, Op::Store(0))),
-        (
-            Role::Host,
-            "swap 0x1ffff8 7",
-            access(0x1f_fff8, Op::Swap(7)),
-        ),
-        (Role::Host, "cas 8 1 0", compare(8, 1, 0)),
-        (
-            Role::Host,
-            "xor 0x8010 18446744073709551615",
-            access(0x8010, Op::Xor(u64::MAX)),
-        ),
-        (CPU, "skip 1 if ok", skip(1, SkipTest::Good)),
-        (CPU, "skip 0x2000 if bad", skip(8192, SkipTest::Bad)),
-        (CPU, "skip 8192 if value 0", skip(8192, SkipTest::Value(0))),
-        (Role::Host, "skip 8192 if ok", skip(8192, SkipTest::Good)),
-        (
-            Role::Host,
-            "skip 2 if value 0xffffffffffffffff",
-            skip(2, SkipTest::Value(u64::MAX)),
-        ),
-        (Role::Firmware, "skip 3 if bad", skip(3, SkipTest::Bad)),
-        (
-            Role::Firmware,
-            "skip 1 if value 16",
-            skip(1, SkipTest::Value(16)),
-        ),
-    ] {
-        assert!(rt; is_item(&role, line, item), "{line}");
-    }
-}
-
-// Lines of instructions that are refused.
-const REFUSED_INSTRUCTIONS: [(Role, &str, Reason); 25] = [
-    (Role::Host, "rmpupdate 3 4k 1 5 7", Reason::Form),
-    (Role::Host, "rmpupdate 3 4k 1 5 7 0 1", Reason::Form),
-    (Role::Host, "rmpupdate 3 4k 1 5 7 0 retry", Reason::Form),
-    (Role::Host, "rmpupdate x 1g 1 5 7 0", Reason::Number),
-    (Role::Host, "rmpupdate 3 1g 2 5 7 0", Reason::Form),
-    (Role::Host, "rmpupdate 3 4k 2 x 7 0", Reason::Range),
-    (Role::Host, "rmpupdate 3 4k yes 1024 7 0", Reason::Number),
-    (Role::Host, "rmpupdate 3 4k 1 1024 x 0", Reason::Range),
-    (
-        Role::Host,
-        "rmpupdate 3 4k 1 5 0x1000000000 2",
-        Reason::Range,
-    ),
-    (Role::Host, "rmpupdate 3 4k 1 5 7 2 again 0", Reason::Range),
-    (Role::Host, "rmpupdate 3 4k 1 5 7 0 again 0", Reason::Form),
-    (Role::Host, "rmpupdate 3 4k 1 5 7 0 retry 0", Reason::Range),
-    (
-        Role::Host,
-        "rmpupdate 3 4k 1 5 7 0 retry 256",
-        Reason::Range,
-    ),
-    (
-        Role::Host,
-        "rmpupdate 3 4k 1 5 7 0 retry one",
-        Reason::Number,
-    ),
-    (Role::Host, "psmash", Reason::Form),
-    (Role::Host, "psmash 512 retry", Reason::Form),
-    (Role::Host, "psmash 512 retry 1 2", Reason::Form),
-    (Role::Host, "psmash x again 0", Reason::Number),
-    (Role::Host, "psmash 512 again 0", Reason::Form),
-    (Role::Host, "psmash 512 retry 0", Reason::Range),
-    (Role::Host, "load 0x10 retry 1", Reason::Form),
-    (CPU, "rmpupdate 3 4k 1 5 7 0", Reason::Form),
-    (CPU, "psmash 512", Reason::Form),
-    (Role::Firmware, "rmpupdate 3 4k 1 5 7 0", Reason::Form),
-    (Role::Firmware, "psmash 512 retry 1", Reason::Form),
-];
-
-// The greatest of each operand.
-const GREATEST: Update = Update {
-    frame: u64::MAX,
-    size: PageSize::Large,
-    assigned: true,
-    asid: 1023,
-    gpn: 0xf_ffff_ffff,
-    immutable: true,
-};
-
-// One that frees a frame.
-const FREEING: Update = Update {
-    frame: 3,
-    size: PageSize::Small,
-    assigned: false,
-    asid: 0,
-    gpn: 0,
-    immutable: false,
-};
-
-// Each of the two flags alone.
-const ASSIGNING: Update = Update {
-    assigned: true,
-    ..FREEING
-};
-
-const FIXING: Update = Update {
-    immutable: true,
-    ..FREEING
-};
-
-fn retried(item: Item, retries: u8) -> Line {
-    Line { item, retries }
-}
-
-#[test]
-fn lines_of_instructions(rt: HostRuntime) {
-    for (role, line, reason) in REFUSED_INSTRUCTIONS {
-        assert!(rt; is_refused_item(&role, line, reason), "{line}");
-    }
-    for (line, expected) in [
-        (
-            "rmpupdate 0xffffffffffffffff 2m 1 1023 0xfffffffff 1",
-            once(Item::Rmpupdate(GREATEST)),
-        ),
-        (
-            "rmpupdate 18446744073709551615 2m 0x1 0x3ff 68719476735 0x1 retry 255",
-            retried(Item::Rmpupdate(GREATEST), 255),
-        ),
-        ("rmpupdate 3 4k 0 0 0 0", once(Item::Rmpupdate(FREEING))),
-        ("rmpupdate 3 4k 1 0 0 0", once(Item::Rmpupdate(ASSIGNING))),
-        (
-            "rmpupdate 3 4k 0 0 0 1 retry 1",
-            retried(Item::Rmpupdate(FIXING), 1),
-        ),
-        ("psmash 512", once(Item::Psmash { frame: 512 })),
-        (
-            "psmash 0xffffffffffffffff retry 0x10",
-            retried(Item::Psmash { frame: u64::MAX }, 16),
-        ),
-    ] {
-        assert!(rt; is_line(&Role::Host, line, expected), "{line}");
-    }
-}
 
 fn is_whole(scenario: &Scenario) -> bool {
     let mut key = [0; 32];
@@ -654,6 +382,8 @@ fn are_actors(scenario: &Scenario) -> bool {
         once(compare(16, 5, 6)),
         once(access(16, Op::Xor(3))),
         once(skip(1, SkipTest::Good)),
+        retried(pvalidate(0x20_0000, PageSize::Large, true), 3),
+        once(rmpadjust(0x20_0000, PageSize::Large, 3, 15, false)),
     ];
     let host_items = [
         once(access(0x1f_fff8, Op::Store(0))),

@@ -1,5 +1,15 @@
 ghost use Rattle.std.specs.Prelude.{◌≡◌, ◌⊎◌, ◌+◌, ◌≤◌, length};
-ghost use Rattle.snp_model.specs.ItemLines.{size_word, flag_word, retries_word, update_operands, update_row, smash_row};
+ghost use Rattle.snp_model.specs.ItemLines.{
+  size_word,
+  flag_word,
+  retries_word,
+  update_operands,
+  update_row,
+  smash_row,
+  validate_row,
+  adjust_operands,
+  adjust_row,
+};
 
 use crate::number::{is_word, read_below, read_fixed, read_number, read_ranged};
 use crate::words::Words;
@@ -46,7 +56,7 @@ fn read_retries(words: &Words<'_>, count: usize) -> Result<u8, Reason>
 
 // `F S B A P I`: the operands of RMPUPDATE.
 #[tactic(auto, unfolding(snp_model::specs::ItemLines::update_operands))]
-fn read_operands(words: &Words<'_>) -> Result<Update, Reason>
+fn read_update_operands(words: &Words<'_>) -> Result<Update, Reason>
     requires { 7 ≤ length words.now }
     ensures { result ≡ update_operands words.now }
 {
@@ -72,7 +82,7 @@ pub fn read_update(words: &Words<'_>) -> Result<Line, Reason>
     requires { (length words.now ≡ 7) ⊎ (length words.now ≡ 9) }
     ensures { result ≡ update_row words.now }
 {
-    let update = read_operands(words)?;
+    let update = read_update_operands(words)?;
     let retries = read_retries(words, 7)?;
     Ok(Line {
         item: Item::Rmpupdate(update),
@@ -92,4 +102,55 @@ pub fn read_smash(words: &Words<'_>) -> Result<Line, Reason>
         item: Item::Psmash { frame },
         retries,
     })
+}
+
+/// `pvalidate VA S B`, `pvalidate VA S B retry N`
+#[tactic(auto, unfolding(snp_model::specs::ItemLines::validate_row))]
+pub fn read_validate(words: &Words<'_>) -> Result<Line, Reason>
+    requires { (length words.now ≡ 4) ⊎ (length words.now ≡ 6) }
+    ensures { result ≡ validate_row words.now }
+{
+    let address = read_number(words.at(1))?;
+    let size = read_size(words.at(2))?;
+    let validate = read_flag(words.at(3))?;
+    let retries = read_retries(words, 4)?;
+    Ok(Line {
+        item: Item::Pvalidate {
+            address,
+            size,
+            validate,
+        },
+        retries,
+    })
+}
+
+// `VA S T M W`: the operands of RMPADJUST.
+#[tactic(auto, unfolding(snp_model::specs::ItemLines::adjust_operands))]
+fn read_adjust_operands(words: &Words<'_>) -> Result<Item, Reason>
+    requires { 6 ≤ length words.now }
+    ensures { result ≡ adjust_operands words.now }
+{
+    let address = read_number(words.at(1))?;
+    let size = read_size(words.at(2))?;
+    let target = read_below(256, words.at(3))?;
+    let mask = read_below(256, words.at(4))?;
+    let vmsa = read_flag(words.at(5))?;
+    Ok(Item::Rmpadjust {
+        address,
+        size,
+        target: target as u8,
+        mask: mask as u8,
+        vmsa,
+    })
+}
+
+/// `rmpadjust VA S T M W`, `rmpadjust VA S T M W retry N`
+#[tactic(auto, unfolding(snp_model::specs::ItemLines::adjust_row))]
+pub fn read_adjust(words: &Words<'_>) -> Result<Line, Reason>
+    requires { (length words.now ≡ 6) ⊎ (length words.now ≡ 8) }
+    ensures { result ≡ adjust_row words.now }
+{
+    let item = read_adjust_operands(words)?;
+    let retries = read_retries(words, 6)?;
+    Ok(Line { item, retries })
 }

@@ -13,12 +13,13 @@ ghost use Rattle.snp_model.specs.ItemLines.{
   skip_value_row,
   skip_item,
   access_item,
+  cpu_item,
   host_item,
   item_words,
   item_line,
 };
 
-use crate::instructions::{read_smash, read_update};
+use crate::instructions::{read_adjust, read_smash, read_update, read_validate};
 use crate::number::{is_word, multiple, read_below, read_fixed, read_number, read_ranged};
 use crate::words::Words;
 use snp_model::{Item, Line, Op, Reason, Role, SkipTest};
@@ -202,6 +203,20 @@ fn read_access_item(role: &Role, frames: u32, words: &Words<'_>) -> Result<Line,
     }
 }
 
+// The items of a guest processor.
+#[tactic(auto, unfolding(snp_model::specs::ItemLines::cpu_item))]
+fn read_cpu_item(role: &Role, frames: u32, words: &Words<'_>) -> Result<Line, Reason>
+    ensures { result ≡ cpu_item role.now frames words.now }
+{
+    if words.is_retry_row(b"pvalidate", 4) {
+        read_validate(words)
+    } else if words.is_retry_row(b"rmpadjust", 6) {
+        read_adjust(words)
+    } else {
+        read_access_item(role, frames, words)
+    }
+}
+
 // The items of a hypervisor processor.
 #[tactic(auto, unfolding(snp_model::specs::ItemLines::host_item))]
 fn read_host_item(frames: u32, words: &Words<'_>) -> Result<Line, Reason>
@@ -221,7 +236,7 @@ pub fn read_item_words(role: &Role, frames: u32, words: &Words<'_>) -> Result<Li
     ensures { result ≡ item_words role.now frames words.now }
 {
     match role {
-        Role::Cpu { .. } => read_access_item(role, frames, words),
+        Role::Cpu { .. } => read_cpu_item(role, frames, words),
         Role::Host => read_host_item(frames, words),
         Role::Firmware => read_skip_item(words),
     }
