@@ -1,5 +1,5 @@
 -- The lines of a report, one after another.
-use Rattle.std.proofs.Common.{◌≡◌, ◌≢◌, ℕ, zero, suc, ◌+◌, ◌-◌, ◌<◌, cond, eqb, List, [], ◌∷◌, ◌++◌, length, get_or, drop, map, slice_get, Some, refl, ap, sym, ◌∙◌, arith, append_assoc, codes, true, false}
+use Rattle.std.proofs.Common.{◌≡◌, ◌≢◌, ℕ, zero, suc, ◌+◌, ◌-◌, ◌<◌, cond, eqb, List, [], ◌∷◌, ◌++◌, length, get_or, drop, slice_get, Some, refl, ap, sym, ◌∙◌, arith, append_assoc, codes, true, false}
 use Rattle.std.proofs.lemmas.Bool.Decides.{nat_tests}
 use Rattle.std.proofs.lemmas.List.{at_drop_more}
 use Rattle.snp_model.specs.declared.event.Event.{Event}
@@ -20,16 +20,6 @@ pub length-actors : (entries : List (ℕ × Event)) → length (actors_of entrie
 unfolding actors_of
 length-actors [] = refl
 length-actors (e ∷ entries) = ap suc (length-actors entries)
-
--- the actor of an entry, and those after it
-pub actor_at : (entries : List (ℕ × Event)) (k : ℕ) (e : ℕ × Event) → slice_get entries k ≡ Some e → drop k (actors_of entries) ≡ e.0 ∷ drop (k + 1) (actors_of entries)
-unfolding actors_of
-actor_at [] k e h = absurd (cc)
-actor_at (y ∷ ys) zero e h =
-    let same : y ≡ e = cc in ap (λ (z : ℕ × Event). z.0 ∷ map (λ (entry : ℕ × Event). entry.0) ys) same
-actor_at (y ∷ ys) (suc k) e h =
-    let f : suc k + 1 ≡ suc (k + 1) = omega arith in
-    rw f (actor_at ys k e h)
 
 -- the line of an event, and those after it
 pub event_at : (entries : List (ℕ × Event)) (k : ℕ) (e : ℕ × Event) → slice_get entries k ≡ Some e → event_lines k (drop k entries) ≡ line (event_text k e.0 e.1) ++ event_lines (k + 1) (drop (k + 1) entries)
