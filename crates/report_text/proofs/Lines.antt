@@ -21,16 +21,6 @@ unfolding actors_of
 length-actors [] = refl
 length-actors (e ∷ entries) = ap suc (length-actors entries)
 
--- the actor of an entry, and those after it
-pub actor_at : (entries : List (ℕ × Event)) (k : ℕ) (e : ℕ × Event) → slice_get entries k ≡ Some e → drop k (actors_of entries) ≡ e.0 ∷ drop (k + 1) (actors_of entries)
-unfolding actors_of
-actor_at [] k e h = absurd (cc)
-actor_at (y ∷ ys) zero e h =
-    let same : y ≡ e = cc in ap (λ (z : ℕ × Event). z.0 ∷ map (λ (entry : ℕ × Event). entry.0) ys) same
-actor_at (y ∷ ys) (suc k) e h =
-    let f : suc k + 1 ≡ suc (k + 1) = omega arith in
-    rw f (actor_at ys k e h)
-
 -- the line of an event, and those after it
 pub event_at : (entries : List (ℕ × Event)) (k : ℕ) (e : ℕ × Event) → slice_get entries k ≡ Some e → event_lines k (drop k entries) ≡ line (event_text k e.0 e.1) ++ event_lines (k + 1) (drop (k + 1) entries)
 unfolding event_lines

@@ -1,12 +1,12 @@
--- A journal whose outcomes are kept apart from its events.
-use Rattle.std.proofs.Common.{◌≡◌, ℕ, zero, suc, ◌+◌, ◌-◌, ◌^◌, ◌<◌, ◌≤◌, Bool, true, false, ◌&&◌, nat_le, List, [], ◌∷◌, ◌++◌, length, get_or, map, slice_get, Option, Some, None, refl, sym, ap, ◌∙◌, subst, arith, add-one, length-append}
+-- A journal whose actors and outcomes are kept apart from its events.
+use Rattle.std.proofs.Common.{◌≡◌, ℕ, zero, suc, ◌+◌, ◌-◌, ◌^◌, ◌<◌, ◌≤◌, Bool, true, false, ◌&&◌, nat_le, List, [], ◌∷◌, ◌++◌, length, get_or, slice_get, Option, Some, None, refl, sym, ap, ◌∙◌, subst, arith, length-append}
 use Rattle.std.proofs.lemmas.Bool.Decides.{nat_tests}
-use Rattle.std.proofs.lemmas.List.{map-append, get_or_append_left, get_or-append-add}
+use Rattle.std.proofs.lemmas.List.{get_or_append_left}
 use Rattle.std.proofs.lemmas.List.Folds.{list_all-append}
-use Rattle.std.proofs.lemmas.Option.{slice_get-get_or, slice_get-map}
-use Rattle.std.specs.List.{list_all}
+use Rattle.std.proofs.lemmas.Option.{slice_get-get_or}
 use Rattle.snp_model.specs.declared.event.Event.{Event}
 use Rattle.snp_model.specs.declared.event.Outcome.{Outcome}
+use Rattle.snp_model.specs.Journal.{actors_of}
 use Rattle.run_journal.specs.declared.short.Short.{Short}
 use Rattle.run_journal.specs.Shorts.{outcome_at, entry_of, entries_of, are_within, AreShorts, Keeps}
 
@@ -63,23 +63,31 @@ of_le : (a b : ℕ) → a ≤ b → nat_le a b ≡ true
 of_le a b h = grind (arith, nat_tests)
 
 -- the events so far stay as they are
-entries_stay : (before now : List Outcome) (outcome : Option Outcome) (end : ℕ) (shorts : List Short) → Keeps before now outcome end → are_within (length before) shorts ≡ true → entries_of now shorts ≡ entries_of before shorts
-entries_stay before now outcome end [] keeps within = refl
-entries_stay before now outcome end (short ∷ shorts) keeps within =
-    let head : entry_of now short ≡ entry_of before short =
-    ap (λ (o : Option Outcome). let e : Event = record { item = short.item; attempt = short.attempt; deed = short.deed; outcome = o } in (short.actor, e)) (keeps.stays short.end (le_of _ _ (and_l _ _ within))) in
-    ap (λ (e : ℕ × Event). e ∷ entries_of now shorts) head ∙ ap (λ (es : List (ℕ × Event)). entry_of before short ∷ es) (entries_stay before now outcome end shorts keeps (and_r _ _ within))
+entries_stay : (before now : List Outcome) (outcome : Option Outcome) (end : ℕ) (actors : List ℕ) (shorts : List Short) → Keeps before now outcome end → are_within (length before) shorts ≡ true → entries_of now actors shorts ≡ entries_of before actors shorts
+entries_stay before now outcome end [] shorts keeps within = refl
+entries_stay before now outcome end (actor ∷ actors) [] keeps within = refl
+entries_stay before now outcome end (actor ∷ actors) (short ∷ shorts) keeps within =
+    let head : entry_of now actor short ≡ entry_of before actor short =
+    ap (λ (o : Option Outcome). let e : Event = record { item = short.item; attempt = short.attempt; deed = short.deed; outcome = o } in (actor, e)) (keeps.stays short.end (le_of _ _ (and_l _ _ within))) in
+    ap (λ (e : ℕ × Event). e ∷ entries_of now actors shorts) head ∙ ap (λ (es : List (ℕ × Event)). entry_of before actor short ∷ es) (entries_stay before now outcome end actors shorts keeps (and_r _ _ within))
+
+entries_join : (outcomes : List Outcome) (actors : List ℕ) (shorts : List Short) (actor : ℕ) (short : Short) → length actors ≡ length shorts
+    → entries_of outcomes (actors ++ actor ∷ []) (shorts ++ short ∷ []) ≡ entries_of outcomes actors shorts ++ entry_of outcomes actor short ∷ []
+entries_join outcomes [] [] actor short same = refl
+entries_join outcomes [] (s ∷ shorts) actor short same = absurd (omega arith)
+entries_join outcomes (a ∷ actors) [] actor short same = absurd (omega arith)
+entries_join outcomes (a ∷ actors) (s ∷ shorts) actor short same = ap (λ (es : List (ℕ × Event)). entry_of outcomes a s ∷ es) (entries_join outcomes actors shorts actor short (omega arith))
 
 -- and one is added
-pub entries_more : (before now : List Outcome) (event : Event) (end actor : ℕ) (shorts : List Short) (short : Short) → Keeps before now event.outcome end → are_within (length before) shorts ≡ true
-    → short ≡ record { actor = actor; item = event.item; attempt = event.attempt; end = end; deed = event.deed }
-    → entries_of now (shorts ++ short ∷ []) ≡ entries_of before shorts ++ (actor, event) ∷ []
-entries_more before now event end actor shorts short keeps within is =
-    let one : entry_of now short ≡ (actor, event) =
-    ap (entry_of now) is ∙ ap (λ (o : Option Outcome). let e : Event = record { item = event.item; attempt = event.attempt; deed = event.deed; outcome = o } in (actor, e)) keeps.value in
-    map-append (entry_of now) shorts (short ∷ [])
-    ∙ ap (λ (es : List (ℕ × Event)). es ++ entry_of now short ∷ []) (entries_stay before now event.outcome end shorts keeps within)
-    ∙ ap (λ (e : ℕ × Event). entries_of before shorts ++ e ∷ []) one
+pub entries_more : (before now : List Outcome) (event : Event) (end actor : ℕ) (actors : List ℕ) (shorts : List Short) (short : Short) → Keeps before now event.outcome end → are_within (length before) shorts ≡ true → length actors ≡ length shorts
+    → short ≡ record { item = event.item; attempt = event.attempt; end = end; deed = event.deed }
+    → entries_of now (actors ++ actor ∷ []) (shorts ++ short ∷ []) ≡ entries_of before actors shorts ++ (actor, event) ∷ []
+entries_more before now event end actor actors shorts short keeps within same is =
+    let one : entry_of now actor short ≡ (actor, event) =
+    ap (entry_of now actor) is ∙ ap (λ (o : Option Outcome). let e : Event = record { item = event.item; attempt = event.attempt; deed = event.deed; outcome = o } in (actor, e)) keeps.value in
+    entries_join now actors shorts actor short same
+    ∙ ap (λ (es : List (ℕ × Event)). es ++ entry_of now actor short ∷ []) (entries_stay before now event.outcome end actors shorts keeps within)
+    ∙ ap (λ (e : ℕ × Event). entries_of before actors shorts ++ e ∷ []) one
 
 within_wider : (few many : ℕ) (shorts : List Short) → are_within few shorts ≡ true → few ≤ many → are_within many shorts ≡ true
 within_wider few many [] within h = refl
@@ -99,34 +107,56 @@ within_at count zero (s ∷ shorts) short within h is = let b : s.end ≤ count 
 within_at count (suc k) (s ∷ shorts) short within h is = within_at count k shorts short (and_r _ _ within) (omega arith) is
 
 -- no events
-pub shorts_none : (room outcome_room : ℕ) → room ≤ 2 ^ 32 - 1 → room ≤ outcome_room → AreShorts [] room [] outcome_room
-shorts_none room outcome_room small rooms = record { few = omega arith; fewer = omega arith; rooms = rooms; small = small; within = refl }
+pub shorts_none : (actor_room room outcome_room : ℕ) → room ≤ 2 ^ 32 - 1 → room ≤ actor_room → room ≤ outcome_room → AreShorts [] actor_room [] room [] outcome_room
+shorts_none actor_room room outcome_room small actor_rooms rooms = record { whose = refl; few = omega arith; fewer = omega arith; actor_rooms = actor_rooms; rooms = rooms; small = small; within = refl }
 
-pub entry_at : (outcomes : List Outcome) (shorts : List Short) (k : ℕ) (short : Short) → k < length shorts → short ≡ get_or shorts k short → slice_get (entries_of outcomes shorts) k ≡ Some (entry_of outcomes short)
-entry_at outcomes [] k short h is = absurd (omega arith)
-entry_at outcomes (s ∷ shorts) zero short h is = ap (λ (x : Short). Some (entry_of outcomes x)) (sym is)
-entry_at outcomes (s ∷ shorts) (suc k) short h is = entry_at outcomes shorts k short (omega arith) is
+-- each has its actor
+pub entry_at : (outcomes : List Outcome) (actors : List ℕ) (shorts : List Short) (k actor : ℕ) (short : Short) → length actors ≡ length shorts → k < length shorts → actor ≡ get_or actors k actor → short ≡ get_or shorts k short
+    → slice_get (entries_of outcomes actors shorts) k ≡ Some (entry_of outcomes actor short)
+entry_at outcomes actors [] k actor short same h whose is = absurd (omega arith)
+entry_at outcomes [] (s ∷ shorts) k actor short same h whose is = absurd (omega arith)
+entry_at outcomes (a ∷ actors) (s ∷ shorts) zero actor short same h whose is = λ i. Some (entry_of outcomes (sym whose i) (sym is i))
+entry_at outcomes (a ∷ actors) (s ∷ shorts) (suc k) actor short same h whose is = entry_at outcomes actors shorts k actor short (omega arith) (omega arith) whose is
 
-pub length_entries : (outcomes : List Outcome) (shorts : List Short) → length (entries_of outcomes shorts) ≡ length shorts
-length_entries outcomes [] = refl
-length_entries outcomes (s ∷ shorts) = ap suc (length_entries outcomes shorts)
+pub actors_same : (outcomes : List Outcome) (actors : List ℕ) (shorts : List Short) → length actors ≡ length shorts → actors_of (entries_of outcomes actors shorts) ≡ actors
+unfolding actors_of
+actors_same outcomes [] shorts same = refl
+actors_same outcomes (a ∷ actors) [] same = absurd (omega arith)
+actors_same outcomes (a ∷ actors) (s ∷ shorts) same = ap (λ (xs : List ℕ). a ∷ xs) (actors_same outcomes actors shorts (omega arith))
+
+pub actor_at : (outcomes : List Outcome) (actors : List ℕ) (shorts : List Short) (k actor : ℕ) → length actors ≡ length shorts → k < length actors → actor ≡ get_or actors k actor → slice_get (actors_of (entries_of outcomes actors shorts)) k ≡ Some actor
+actor_at outcomes actors shorts k actor same h whose =
+    ap (λ (xs : List ℕ). slice_get xs k) (actors_same outcomes actors shorts same)
+    ∙ slice_get-get_or actors k actor h
+    ∙ ap (λ (a : ℕ). Some a) (sym whose)
+
+pub length_entries : (outcomes : List Outcome) (actors : List ℕ) (shorts : List Short) → length actors ≡ length shorts → length (entries_of outcomes actors shorts) ≡ length shorts
+length_entries outcomes [] shorts same = same
+length_entries outcomes (a ∷ actors) [] same = absurd (omega arith)
+length_entries outcomes (a ∷ actors) (s ∷ shorts) same = ap suc (length_entries outcomes actors shorts (omega arith))
 
 -- one event more
-pub shorts_more : (shorts now : List Short) (room now_room : ℕ) (before after : List Outcome) (outcome_room now_outcome_room : ℕ) (outcome : Option Outcome) (end : ℕ) (short : Short)
-    → AreShorts shorts room before outcome_room → Keeps before after outcome end → now ≡ shorts ++ short ∷ [] → now_room ≡ room → now_outcome_room ≡ outcome_room → short.end ≡ end → length shorts < room
-    → AreShorts now now_room after now_outcome_room
-shorts_more shorts now room now_room before after outcome_room now_outcome_room outcome end short are keeps adds same same_outcome ends some =
+pub shorts_more : (actors actors_now : List ℕ) (actor_room now_actor_room : ℕ) (shorts now : List Short) (room now_room : ℕ) (before after : List Outcome) (outcome_room now_outcome_room : ℕ) (outcome : Option Outcome) (actor end : ℕ) (short : Short)
+    → AreShorts actors actor_room shorts room before outcome_room → Keeps before after outcome end → actors_now ≡ actors ++ actor ∷ [] → now ≡ shorts ++ short ∷ [] → now_actor_room ≡ actor_room → now_room ≡ room → now_outcome_room ≡ outcome_room
+    → short.end ≡ end → length shorts < room
+    → AreShorts actors_now now_actor_room now now_room after now_outcome_room
+shorts_more actors actors_now actor_room now_actor_room shorts now room now_room before after outcome_room now_outcome_room outcome actor end short are keeps acts adds same_actor same same_outcome ends some =
     let longer : length now ≡ length shorts + 1 = ap length adds ∙ length-append shorts (short ∷ []) in
+    let longer_actors : length actors_now ≡ length actors + 1 = ap length acts ∙ length-append actors (actor ∷ []) in
+    let whose = are.whose in
     let few = are.few in
     let fewer = are.fewer in
+    let actor_rooms = are.actor_rooms in
     let rooms = are.rooms in
     let small = are.small in
     let little = keeps.little in
     let inside = keeps.inside in
     let P : List Short → Type 0 = λ xs. are_within (length after) xs ≡ true in
     record {
+      whose = omega arith;
       few = omega arith;
       fewer = omega arith;
+      actor_rooms = omega arith;
       rooms = omega arith;
       small = omega arith;
       within = subst P (sym adds) (within_more (length before) (length after) shorts short are.within keeps.grows (omega arith));

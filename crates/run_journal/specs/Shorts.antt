@@ -1,5 +1,5 @@
--- A journal whose outcomes are kept apart from its events.
-use Rattle.std.specs.Prelude.{◌≡◌, ℕ, zero, suc, ◌+◌, ◌-◌, ◌^◌, ◌≤◌, Bool, true, nat_le, List, length, map, slice_get, Option, None}
+-- A journal whose actors and outcomes are kept apart from its events.
+use Rattle.std.specs.Prelude.{◌≡◌, ℕ, zero, suc, ◌+◌, ◌-◌, ◌^◌, ◌≤◌, Bool, true, nat_le, List, [], ◌∷◌, length, slice_get, Option, None}
 use Rattle.std.specs.List.{list_all}
 use Rattle.snp_model.specs.declared.event.Event.{Event}
 use Rattle.snp_model.specs.declared.event.Outcome.{Outcome}
@@ -11,20 +11,24 @@ outcome_at outcomes zero = None
 outcome_at outcomes (suc place) = slice_get outcomes place
 
 -- an event and its actor
-abbrev pub entry_of : List Outcome → Short → ℕ × Event
-entry_of outcomes short = (short.actor, record { item = short.item; attempt = short.attempt; deed = short.deed; outcome = outcome_at outcomes short.end })
+abbrev pub entry_of : List Outcome → ℕ → Short → ℕ × Event
+entry_of outcomes actor short = (actor, record { item = short.item; attempt = short.attempt; deed = short.deed; outcome = outcome_at outcomes short.end })
 
-abbrev pub entries_of : List Outcome → List Short → List (ℕ × Event)
-entries_of outcomes shorts = map (entry_of outcomes) shorts
+abbrev pub entries_of : List Outcome → List ℕ → List Short → List (ℕ × Event)
+entries_of outcomes [] shorts = []
+entries_of outcomes (actor ∷ actors) [] = []
+entries_of outcomes (actor ∷ actors) (short ∷ shorts) = entry_of outcomes actor short ∷ entries_of outcomes actors shorts
 
 -- the places are within so many outcomes
 abbrev pub are_within : ℕ → List Short → Bool
 are_within count shorts = list_all (λ short. nat_le short.end count) shorts
 
--- there is room for all, and the places are within the outcomes
-pub record AreShorts (shorts : List Short) (room : ℕ) (outcomes : List Outcome) (outcome_room : ℕ) : Type 0 where
+-- every event has an actor, there is room for all, and the places are within the outcomes
+pub record AreShorts (actors : List ℕ) (actor_room : ℕ) (shorts : List Short) (room : ℕ) (outcomes : List Outcome) (outcome_room : ℕ) : Type 0 where
+  pub whose : length actors ≡ length shorts
   pub few : length shorts ≤ room
   pub fewer : length outcomes ≤ length shorts
+  pub actor_rooms : room ≤ actor_room
   pub rooms : room ≤ outcome_room
   pub small : room ≤ 2 ^ 32 - 1
   pub within : are_within (length outcomes) shorts ≡ true
