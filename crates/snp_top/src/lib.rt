@@ -4,8 +4,11 @@
 pub mod batch;
 mod errors;
 pub mod fault;
+pub mod fleet;
 pub mod input;
+pub mod program;
 pub mod replay;
+pub mod run;
 pub mod schedule;
 #[cfg(test)]
 mod tests;
