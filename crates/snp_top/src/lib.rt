@@ -6,6 +6,7 @@ mod errors;
 pub mod fault;
 pub mod fleet;
 pub mod input;
+pub mod locked_fleet;
 pub mod program;
 pub mod replay;
 pub mod run;
