@@ -10,6 +10,8 @@ pub mod locked_fleet;
 pub mod program;
 pub mod replay;
 pub mod run;
+#[cfg(test)]
+mod run_tests;
 pub mod schedule;
 #[cfg(test)]
 mod tests;
