@@ -2,17 +2,17 @@ ghost use Rattle.std.specs.Prelude.{◌≡◌, ◌<◌, ◌≤◌, ◌^◌, ◌-
 ghost use Rattle.snp_model.specs.Journal.{actors_of};
 ghost use Rattle.run_journal.specs.Shorts.{Keeps, outcome_at};
 
-use crate::short::Short;
+use crate::short::{Mark, Short};
 use snp_model::{Event, Outcome};
 use std::alloc::{AllocError, Global};
 use std::marker::Model;
 
 /// The events of a run with their actors, the oldest first. It has its memory from the start. Outcomes are much
 /// larger than the rest of an event, and most events have none, so they are kept apart. Actors are kept apart since the
-/// order of a report needs nothing else.
+/// order of a report needs nothing else of an event, and outcomes' places beside them, so that no memory is padding.
 #[derive(Debug, Drop)]
 pub struct Journal {
-    actors: Vec<u32>,
+    marks: Vec<Mark>,
     events: Vec<Short>,
     outcomes: Vec<Outcome>,
 }
@@ -24,9 +24,9 @@ impl Model for Journal {
 
     ghost Value = { JournalImage };
 
-    ghost view = { λ j. record { list = entries_of j.outcomes.items j.actors.items j.events.items; room = vec_capacity j.events } };
+    ghost view = { λ j. record { list = entries_of j.outcomes.items j.marks.items j.events.items; room = vec_capacity j.events } };
 
-    ghost invariant = { λ j. AreShorts j.actors.items (vec_capacity j.actors) j.events.items (vec_capacity j.events) j.outcomes.items (vec_capacity j.outcomes) };
+    ghost invariant = { λ j. AreShorts j.marks.items (vec_capacity j.marks) j.events.items (vec_capacity j.events) j.outcomes.items (vec_capacity j.outcomes) };
 }
 
 impl Journal {
@@ -38,11 +38,11 @@ impl Journal {
         if room > 0xffff_ffff {
             return Err(AllocError);
         }
-        let actors = Vec::with_capacity(alloc, room)?;
+        let marks = Vec::with_capacity(alloc, room)?;
         let events = Vec::with_capacity(alloc, room)?;
         let outcomes = Vec::with_capacity(alloc, room)?;
         Ok(Journal {
-            actors,
+            marks,
             events,
             outcomes,
         })
@@ -56,11 +56,10 @@ impl Journal {
         ensures room { self.new.room ≡ self.old.room }
     {
         let end = keep_outcome(&mut self.outcomes, &event.outcome);
-        self.actors.push_reserved(actor);
+        self.marks.push_reserved(Mark { actor, end });
         self.events.push_reserved(Short {
             item: event.item,
             attempt: event.attempt,
-            end,
             deed: event.deed,
         });
     }
@@ -86,14 +85,15 @@ impl Journal {
         requires { k < length self.now.list }
         ensures { slice_get self.now.list k ≡ Some result }
     {
+        let mark = self.marks[k];
         let short = self.events[k];
         let event = Event {
             item: short.item,
             attempt: short.attempt,
             deed: short.deed,
-            outcome: outcome_at(&self.outcomes, short.end),
+            outcome: outcome_at(&self.outcomes, mark.end),
         };
-        (self.actors[k], event)
+        (mark.actor, event)
     }
 
     /// The actor of event k, from 0.
@@ -102,7 +102,7 @@ impl Journal {
         requires { k < length self.now.list }
         ensures { slice_get (actors_of self.now.list) k ≡ Some result }
     {
-        self.actors[k]
+        self.marks[k].actor
     }
 }
 
