@@ -1,12 +1,16 @@
 -- What an access needs after one more word, and what the read of a guest table makes.
-use Rattle.std.proofs.Common.{◌≡◌, ℕ, List, [], ◌∷◌, ◌++◌, length, Option, Some, refl, sym, ap, ◌∙◌}
+use Rattle.std.proofs.Common.{◌≡◌, ℕ, List, [], ◌∷◌, ◌++◌, length, Option, None, Some, refl, sym, ap, ◌∙◌}
+use Rattle.std.specs.Option.{option_map}
+use Rattle.std.specs.Prelude.{Result, Ok}
 use Rattle.snp_model.specs.declared.access.Place.{Place}
 use Rattle.snp_model.specs.declared.access.Verdict.{Verdict}
 use Rattle.snp_model.specs.declared.access.Verdict.TheVariants.{Pass, Hidden, Fault}
 use Rattle.snp_model.specs.declared.event.Deed.{Deed}
 use Rattle.snp_model.specs.declared.event.Deed.TheVariants as deeds
 use Rattle.snp_model.specs.declared.event.Outcome.{Outcome}
+use Rattle.snp_model.specs.declared.event.Outcome.TheVariants.{Npf, Pf}
 use Rattle.snp_model.specs.declared.entry.PageSize.{PageSize}
+use Rattle.snp_model.specs.declared.walk.GuestEnd.{GuestEnd}
 use Rattle.snp_model.specs.declared.walk.Lookup.{Lookup}
 use Rattle.snp_model.specs.declared.item.Op.TheVariants.{Load}
 use Rattle.snp_model.specs.declared.scenario.GuestSpec.{GuestSpec}
@@ -33,6 +37,27 @@ pub table_read_more : (frames : ℕ) (cpu : Processor) (lookup : Lookup) (made :
     → need_after frames cpu lookup (made ++ deeds.Table gpn index frame (Some value) ∷ []) ≡ walk_need frames cpu.npt lookup (guest_stands cpu.paging lookup (guest_words made ++ value ∷ [])) []
 table_read_more frames cpu lookup made gpn index frame value =
     λ i. walk_need frames cpu.npt lookup (guest_stands cpu.paging lookup (guest_words_more made gpn index frame value i)) (nested_words_anew made gpn index frame (Some value) i)
+
+-- what the read of a nested table shows, by the code of the fault that its word leads to
+pub nested_shown : (frames : ℕ) (cpu : Processor) (lookup : Lookup) (made : List Deed) (frame index value word : ℕ) (stands : GuestEnd) (words : List ℕ) (given code : Option ℕ) (shown : Shown) → word ≡ value → stands ≡ guest_stands cpu.paging lookup (guest_words made) → words ≡ nested_words made
+    → given ≡ code → option_map Npf given ≡ fault_of (walk_need frames cpu.npt lookup stands (words ++ word ∷ []))
+    → shown ≡ record { deed = deeds.Nested frame index word; outcome = option_map Npf code; lock = None }
+    → shown ≡ record { deed = deeds.Nested frame index value; outcome = fault_of (need_after frames cpu lookup (made ++ deeds.Nested frame index value ∷ [])); lock = None }
+nested_shown frames cpu lookup made frame index value word stands words given code shown word_is stands_is words_are given_is fault is =
+    let outcome : option_map Npf code ≡ fault_of (need_after frames cpu lookup (made ++ deeds.Nested frame index value ∷ [])) =
+    sym (ap (option_map Npf) given_is) ∙ fault ∙ (λ i. fault_of (walk_need frames cpu.npt lookup (stands_is i) (words_are i ++ word_is i ∷ []))) ∙ ap fault_of (sym (nested_read_more frames cpu lookup made frame index value)) in
+    is ∙ (λ i. record { deed = deeds.Nested frame index (word_is i); outcome = outcome i; lock = None })
+
+-- what the read of a guest table shows that has given a word, by the code of the fault that it leads to
+pub table_read_shown : (frames : ℕ) (cpu : Processor) (lookup : Lookup) (made : List Deed) (gpn index frame word : ℕ) (words : List ℕ) (load : Result ℕ Outcome) (given code : Option ℕ) (shown : Shown) → words ≡ guest_words made → Ok word ≡ load
+    → given ≡ code → option_map Pf given ≡ fault_of (walk_need frames cpu.npt lookup (guest_stands cpu.paging lookup (words ++ word ∷ [])) [])
+    → shown ≡ record { deed = deeds.Table gpn index frame (Some word); outcome = option_map Pf code; lock = None }
+    → shown ≡ table_shown load gpn index frame (λ value. fault_of (need_after frames cpu lookup (made ++ deeds.Table gpn index frame (Some value) ∷ [])))
+table_read_shown frames cpu lookup made gpn index frame word words load given code shown words_are load_is given_is fault is =
+    let faults : ℕ → Option Outcome = λ value. fault_of (need_after frames cpu lookup (made ++ deeds.Table gpn index frame (Some value) ∷ [])) in
+    let outcome : option_map Pf code ≡ faults word =
+    sym (ap (option_map Pf) given_is) ∙ fault ∙ (λ i. fault_of (walk_need frames cpu.npt lookup (guest_stands cpu.paging lookup (words_are i ++ word ∷ [])) [])) ∙ ap fault_of (sym (table_read_more frames cpu lookup made gpn index frame word)) in
+    is ∙ (λ i. record { deed = deeds.Table gpn index frame (Some word); outcome = outcome i; lock = None }) ∙ ap (λ (l : Result ℕ Outcome). table_shown l gpn index frame faults) load_is
 
 -- the move of a read of a guest table, by what its check says
 pub table_moves : (frames : ℕ) (view : View) (part : ActorPart) (cpu : Processor) (lookup : Lookup) (verdict : Verdict) (gpn index frame : ℕ)

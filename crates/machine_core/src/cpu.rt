@@ -101,7 +101,6 @@ fn begin(guests: &[GuestSpec], walker: &Walker, refusal: Option<Outcome>, shown:
 }
 
 // The event of reading a word of a nested table.
-#[tactic(auto, using(crate::proofs::CpuLaws::nested_read_more))]
 fn read_nested<P: Parts>(
     parts: &P,
     frames: u32,
@@ -124,17 +123,18 @@ fn read_nested<P: Parts>(
     let value = table_word(parts, frame, index);
     let npt = walker.cpu.npt;
     let words = actor.nested_words();
-    let outcome = fault_by_nested(frames, npt, &walker.lookup, stands, words, value);
     let deed = Deed::Nested {
         frame,
         index,
         value,
     };
-    *shown = Shown::quiet(deed, outcome);
+    match fault_by_nested(frames, npt, &walker.lookup, stands, words, value) {
+        None => *shown = Shown::quiet(deed, None),
+        Some(code) => *shown = Shown::last(deed, Outcome::Npf(code)),
+    }
 }
 
 // The event of reading a word of a guest table, with its check.
-#[tactic(auto, using(crate::proofs::CpuLaws::table_read_more))]
 fn read_table<P: Parts>(
     parts: &P,
     actor: &ActorState,
@@ -157,14 +157,16 @@ fn read_table<P: Parts>(
     match guest_table_word(parts, frame, place) {
         Ok(word) => {
             let words = actor.guest_words();
-            let outcome = fault_by_table(walker.cpu.paging, &walker.lookup, words, word);
             let deed = Deed::Table {
                 gpn,
                 index,
                 frame,
                 value: Some(word),
             };
-            *shown = Shown::quiet(deed, outcome);
+            match fault_by_table(walker.cpu.paging, &walker.lookup, words, word) {
+                None => *shown = Shown::quiet(deed, None),
+                Some(code) => *shown = Shown::last(deed, Outcome::Pf(code)),
+            }
         }
         Err(outcome) => {
             let deed = Deed::Table {

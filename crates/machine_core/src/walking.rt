@@ -1,4 +1,6 @@
 ghost use Rattle.std.specs.Prelude.{◌≡◌, ℕ, ◌<◌, ◌≤◌, ◌^◌, Bool, [], ◌∷◌, ◌++◌};
+ghost use Rattle.std.specs.Option.{option_map};
+ghost use Rattle.snp_model.specs.declared.event.Outcome.TheVariants.{Npf, Pf};
 ghost use Rattle.snp_model.specs.declared.walk.Lookup.{Lookup};
 ghost use Rattle.snp_model.specs.Bounds.{IsPaging, IsGuestInside, IsNestedInside, IsNeedInside};
 ghost use Rattle.snp_model.specs.GuestWalk.{guest_end, levels_of};
@@ -105,12 +107,12 @@ fn tables_stand(path: &GuestPath, lookup: &Lookup, words: &[u64]) -> GuestEnd
     counting(lookup.c_bit, guest_end(path, words))
 }
 
-/// The fault that the guest walk of an item comes to by one word more, if it does. A nested walk that has read no word
-/// yet has come to none.
+/// The code of the #PF that the guest walk of an item comes to by one word more, if it does. A nested walk that has read
+/// no word yet has come to no fault.
 #[tactic(auto, using(crate::proofs::WalkingLaws::no_fault_yet), unfolding(snp_model::specs::Walking::guest_stands))]
-pub fn fault_by_table(paging: Paging, lookup: &Lookup, words: &[u64], word: u64) -> Option<Outcome>
+pub fn fault_by_table(paging: Paging, lookup: &Lookup, words: &[u64], word: u64) -> Option<u64>
     requires { IsPaging paging }
-    ensures { (frames npt : ℕ) → result ≡ fault_of (walk_need frames npt lookup.now (guest_stands paging lookup.now (words.now ++ word ∷ [])) []) }
+    ensures { (frames npt : ℕ) → option_map Pf result ≡ fault_of (walk_need frames npt lookup.now (guest_stands paging lookup.now (words.now ++ word ∷ [])) []) }
 {
     match paging {
         Paging::Flat => None,
@@ -124,11 +126,11 @@ pub fn fault_by_table(paging: Paging, lookup: &Lookup, words: &[u64], word: u64)
 }
 
 // So in the walk of a path.
-fn tables_fault(path: &GuestPath, lookup: &Lookup, words: &[u64], word: u64) -> Option<Outcome>
+fn tables_fault(path: &GuestPath, lookup: &Lookup, words: &[u64], word: u64) -> Option<u64>
     requires low { 0 < path.now.levels }
     requires high { path.now.levels ≤ 5 }
     requires root { path.now.root < 2 ^ 36 }
-    ensures { (frames npt : ℕ) → result ≡ fault_of (walk_need frames npt lookup.now (counting lookup.now.c_bit (guest_end path.now (words.now ++ word ∷ []))) []) }
+    ensures { (frames npt : ℕ) → option_map Pf result ≡ fault_of (walk_need frames npt lookup.now (counting lookup.now.c_bit (guest_end path.now (words.now ++ word ∷ []))) []) }
 {
     guest_fault(counting(lookup.c_bit, guest_end_with(path, words, word)))
 }
@@ -154,7 +156,7 @@ pub fn walk_need(frames: u32, npt: u32, lookup: &Lookup, stands: GuestEnd, words
     }
 }
 
-/// The fault that the nested walk under way comes to by the word that it reads, if it does.
+/// The code of the nested page fault that the nested walk under way comes to by the word that it reads, if it does.
 #[tactic(auto, using(crate::proofs::WalkingLaws::reads_table, crate::proofs::WalkingLaws::reads_data), unfolding(snp_model::specs::Walking::walk_need))]
 pub fn fault_by_nested(
     frames: u32,
@@ -163,11 +165,11 @@ pub fn fault_by_nested(
     stands: GuestEnd,
     words: &[u64],
     word: u64,
-) -> Option<Outcome>
+) -> Option<u64>
     requires npt { npt < frames }
     requires inside { IsGuestInside stands }
     requires reads { IsReading (walk_need frames npt lookup.now stands words.now) }
-    ensures { result ≡ fault_of (walk_need frames npt lookup.now stands (words.now ++ word ∷ [])) }
+    ensures { option_map Npf result ≡ fault_of (walk_need frames npt lookup.now stands (words.now ++ word ∷ [])) }
 {
     match stands {
         GuestEnd::Read { gpn, .. } => {
@@ -178,7 +180,8 @@ pub fn fault_by_nested(
             let path = data_path(frames, npt, gpn, private, lookup);
             nested_fault(nested_end_after(&path, words, word))
         }
-        GuestEnd::Fault(code) => Some(Outcome::Pf(code)),
+        // A walk that has faulted reads nothing.
+        GuestEnd::Fault(_) => None,
     }
 }
 
@@ -289,26 +292,26 @@ fn data_need(gpn: u64, private: bool, stands: NestedEnd) -> Need
     }
 }
 
-// The fault that a nested walk has come to, if it has.
-fn nested_fault(stands: NestedEnd) -> Option<Outcome>
-    ensures table { (gpn index : ℕ) → result ≡ fault_of (table_need gpn index stands) }
-    ensures data { (gpn : ℕ) (private : Bool) → result ≡ fault_of (data_need gpn private stands) }
+// The code of the fault that a nested walk has come to, if it has.
+fn nested_fault(stands: NestedEnd) -> Option<u64>
+    ensures table { (gpn index : ℕ) → option_map Npf result ≡ fault_of (table_need gpn index stands) }
+    ensures data { (gpn : ℕ) (private : Bool) → option_map Npf result ≡ fault_of (data_need gpn private stands) }
 {
     match stands {
         NestedEnd::Read { .. } => None,
         NestedEnd::Leaf { .. } => None,
-        NestedEnd::Fault(code) => Some(Outcome::Npf(code)),
+        NestedEnd::Fault(code) => Some(code),
     }
 }
 
-// The fault that a guest walk has come to, if it has.
+// The code of the fault that a guest walk has come to, if it has.
 #[tactic(auto, using(crate::proofs::WalkingLaws::no_fault_read, crate::proofs::WalkingLaws::no_fault_yet, crate::proofs::WalkingLaws::fault_walked))]
-fn guest_fault(stands: GuestEnd) -> Option<Outcome>
-    ensures { (frames npt : ℕ) (lookup : Lookup) → result ≡ fault_of (walk_need frames npt lookup stands []) }
+fn guest_fault(stands: GuestEnd) -> Option<u64>
+    ensures { (frames npt : ℕ) (lookup : Lookup) → option_map Pf result ≡ fault_of (walk_need frames npt lookup stands []) }
 {
     match stands {
         GuestEnd::Read { .. } => None,
         GuestEnd::Leaf { .. } => None,
-        GuestEnd::Fault(code) => Some(Outcome::Pf(code)),
+        GuestEnd::Fault(code) => Some(code),
     }
 }

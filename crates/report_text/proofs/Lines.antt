@@ -1,7 +1,7 @@
 -- The lines of a report, one after another.
-use Rattle.std.proofs.Common.{◌≡◌, ◌≢◌, ℕ, zero, suc, ◌+◌, ◌-◌, ◌<◌, cond, eqb, List, [], ◌∷◌, ◌++◌, length, get_or, drop, map, slice_get, Some, refl, ap, sym, ◌∙◌, arith, append_assoc, codes, true, false}
+use Rattle.std.proofs.Common.{◌≡◌, ◌≢◌, ℕ, zero, suc, ◌+◌, ◌-◌, ◌<◌, ◌≤◌, cond, eqb, List, [], ◌∷◌, ◌++◌, length, get_or, drop, slice_get, Some, refl, ap, sym, ◌∙◌, arith, append_assoc, append-nil, codes, true, false}
 use Rattle.std.proofs.lemmas.Bool.Decides.{nat_tests}
-use Rattle.std.proofs.lemmas.List.{at_drop_more}
+use Rattle.std.proofs.lemmas.List.{at_drop_more, drop_all}
 use Rattle.snp_model.specs.declared.event.Event.{Event}
 use Rattle.snp_model.specs.declared.report.GuestLine.{GuestLine}
 use Rattle.snp_model.specs.EventText.{event_text}
@@ -21,20 +21,18 @@ unfolding actors_of
 length-actors [] = refl
 length-actors (e ∷ entries) = ap suc (length-actors entries)
 
--- the actor of an entry, and those after it
-pub actor_at : (entries : List (ℕ × Event)) (k : ℕ) (e : ℕ × Event) → slice_get entries k ≡ Some e → drop k (actors_of entries) ≡ e.0 ∷ drop (k + 1) (actors_of entries)
-unfolding actors_of
-actor_at [] k e h = absurd (cc)
-actor_at (y ∷ ys) zero e h =
-    let same : y ≡ e = cc in ap (λ (z : ℕ × Event). z.0 ∷ map (λ (entry : ℕ × Event). entry.0) ys) same
-actor_at (y ∷ ys) (suc k) e h =
-    let f : suc k + 1 ≡ suc (k + 1) = omega arith in
-    rw f (actor_at ys k e h)
-
 -- the line of an event, and those after it
 pub event_at : (entries : List (ℕ × Event)) (k : ℕ) (e : ℕ × Event) → slice_get entries k ≡ Some e → event_lines k (drop k entries) ≡ line (event_text k e.0 e.1) ++ event_lines (k + 1) (drop (k + 1) entries)
 unfolding event_lines
 event_at entries k e h = rw (entry_at entries k e h) refl
+
+-- the line of an event behind others, and those after it
+pub event_behind : (front done : List ℕ) (entries : List (ℕ × Event)) (k : ℕ) (e : ℕ × Event) → slice_get entries k ≡ Some e → done ≡ front ++ line (event_text k e.0 e.1) → front ++ event_lines k (drop k entries) ≡ done ++ event_lines (k + 1) (drop (k + 1) entries)
+event_behind front done entries k e h d =
+    let more = event_lines (k + 1) (drop (k + 1) entries) in
+    ap (λ (t : List ℕ). front ++ t) (event_at entries k e h)
+    ∙ sym (append_assoc front (line (event_text k e.0 e.1)) more)
+    ∙ ap (λ (t : List ℕ). t ++ more) (sym d)
 
 -- a run begins
 pub run_begins : (actor : ℕ) (actors : List ℕ) → runs_of (actor ∷ actors) ≡ runs_after actor 1 actors
@@ -132,6 +130,13 @@ pub no_guests : guest_lines [] ≡ []
 unfolding guest_lines
 no_guests = refl
 
-pub no_events : (k : ℕ) → event_lines k [] ≡ []
+no_events : (k : ℕ) → event_lines k [] ≡ []
 unfolding event_lines
 no_events k = refl
+
+-- no line is left behind others after the last event
+pub events_end : (front : List ℕ) (entries : List (ℕ × Event)) (k : ℕ) → length entries ≤ k → front ++ event_lines k (drop k entries) ≡ front
+events_end front entries k h =
+    ap (λ (rest : List (ℕ × Event)). front ++ event_lines k rest) (drop_all k entries h)
+    ∙ ap (λ (t : List ℕ). front ++ t) (no_events k)
+    ∙ append-nil front

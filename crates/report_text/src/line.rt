@@ -7,12 +7,22 @@ use snp_model::{Deed, Event, Outcome, PageSize};
 
 /// Writes the line of event k of an actor, without a line feed, into the front of a buffer, and
 /// gives its length. The rest of the buffer may be anything.
-#[tactic(auto, unfolding(snp_model::specs::EventText::event_text))]
 pub fn write_line(k: u32, actor: u32, event: &Event, out: &mut [u8; 256]) -> usize
     ensures end { result ≤ 255 }
     ensures text { take result out.new ≡ event_text k actor event.now }
 {
-    let end = put_number(out, 0, u64::from(k));
+    put_line(out, 0, k, actor, event)
+}
+
+// Writes the line of event k of an actor, without a line feed, at a place of a buffer.
+#[inline(always)]
+#[tactic(auto, unfolding(snp_model::specs::EventText::event_text))]
+pub(crate) fn put_line(out: &mut [u8], at: usize, k: u32, actor: u32, event: &Event) -> usize
+    requires { at + 255 ≤ length out.old }
+    ensures end { result ≤ at + 255 }
+    ensures text { take result out.new ≡ take at out.old ++ event_text k actor event.now }
+{
+    let end = put_number(out, at, u64::from(k));
     let end = put_named(out, end, b" ", u64::from(actor));
     let end = put_named(out, end, b" ", u64::from(event.item));
     let end = put_named(out, end, b".", u64::from(event.attempt));

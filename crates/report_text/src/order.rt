@@ -14,10 +14,10 @@ fn first_run(journal: &Journal, at: usize) -> (u32, usize)
         runs_of (drop at actors) ≡ (result.0, result.1) ∷ runs_of (drop (at + result.1) actors) }
 {
     let count = journal.len();
-    let (actor, _) = journal.get(at);
+    let actor = journal.actor(at);
     let mut end = at + 1;
     'run: while end < count {
-        let (next, _) = journal.get(end);
+        let next = journal.actor(end);
         if next != actor {
             return (actor, end - at);
         }

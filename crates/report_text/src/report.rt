@@ -5,15 +5,15 @@ ghost use Rattle.snp_model.specs.Outside.{Rose, Writes};
 ghost use Rattle.snp_model.specs.Report.{digest_text, end_text, event_lines, guest_lines, guest_text, head_text, line, order_lines, report_text, runs_of, state_text};
 
 use crate::base16::put_bytes;
-use crate::line::write_line;
+use crate::line::put_line;
 use crate::order::put_order;
 use outside_port::{Sink, SinkFault, write_all};
 use run_journal::Journal;
 use script_text::pen::{put, put_named};
 use snp_model::{Event, GuestLine, GuestState};
 
-/// Writes the report of a journal and its guests, each line by a call of its own. `version` is 1 or 2, that of the scenario.
-/// Takes no memory.
+/// Writes the report of a journal and its guests, many lines of events by one call and each other line by a call of its own.
+/// `version` is 1 or 2, that of the scenario. Takes no memory.
 pub fn write_report<K: Sink>(
     version: u8,
     journal: &Journal,
@@ -46,36 +46,35 @@ fn write_head<K: Sink>(version: u8, sink: &mut K) -> Result<(), SinkFault>
     write_all(sink, &buffer[..end])
 }
 
-// Writes a line for each event.
+// Writes a line for each event: as many as a buffer holds, one behind the other, go to the sink by one call.
 fn write_events<K: Sink>(journal: &Journal, sink: &mut K) -> Result<(), SinkFault>
     requires { length journal.now.list < 2 ^ 32 }
     ensures text { Writes (K.written sink.old) (K.written sink.new) result (event_lines 0 journal.now.list) }
     ensures later { K.faults sink.old ≤ K.faults sink.new }
     ensures cause { OnErr result (Rose (K.faults sink.old) (K.faults sink.new)) }
 {
-    let mut buffer = [0; 256];
+    let mut buffer = [0; 8192];
+    let mut end = 0;
     for k in 0..journal.len() {
         let (actor, event) = journal.get(k);
-        write_event(k as u32, actor, &event, &mut buffer, sink)?;
+        end = put_event(&mut buffer, end, k as u32, actor, &event);
+        if end > 8192 - 256 {
+            write_all(sink, &buffer[..end])?;
+            end = 0;
+        }
     }
-    Ok(())
+    write_all(sink, &buffer[..end])
 }
 
-// Writes the line of event k.
-fn write_event<K: Sink>(
-    k: u32,
-    actor: u32,
-    event: &Event,
-    buffer: &mut [u8; 256],
-    sink: &mut K,
-) -> Result<(), SinkFault>
-    ensures text { Writes (K.written sink.old) (K.written sink.new) result (line (event_text k actor event.now)) }
-    ensures later { K.faults sink.old ≤ K.faults sink.new }
-    ensures cause { OnErr result (Rose (K.faults sink.old) (K.faults sink.new)) }
+// Writes the line of event k at a place of a buffer.
+#[inline(always)]
+fn put_event(out: &mut [u8], at: usize, k: u32, actor: u32, event: &Event) -> usize
+    requires { at + 256 ≤ length out.old }
+    ensures end { result ≤ at + 256 }
+    ensures text { take result out.new ≡ take at out.old ++ line (event_text k actor event.now) }
 {
-    let end = write_line(k, actor, event, buffer);
-    let end = put(buffer, end, b"\n");
-    write_all(sink, &buffer[..end])
+    let end = put_line(out, at, k, actor, event);
+    put(out, end, b"\n")
 }
 
 // Writes the order lines.

@@ -1,12 +1,13 @@
--- A journal whose outcomes are kept apart from its events.
-use Rattle.std.proofs.Common.{◌≡◌, ℕ, zero, suc, ◌+◌, ◌-◌, ◌^◌, ◌<◌, ◌≤◌, Bool, true, false, ◌&&◌, nat_le, List, [], ◌∷◌, ◌++◌, length, get_or, map, slice_get, Option, Some, None, refl, sym, ap, ◌∙◌, subst, arith, add-one, length-append}
+-- A journal whose actors and outcomes are kept apart from its events.
+use Rattle.std.proofs.Common.{◌≡◌, ℕ, zero, suc, ◌+◌, ◌-◌, ◌^◌, ◌<◌, ◌≤◌, Bool, true, false, ◌&&◌, nat_le, List, [], ◌∷◌, ◌++◌, length, get_or, slice_get, Option, Some, None, refl, sym, ap, ◌∙◌, subst, arith, length-append}
 use Rattle.std.proofs.lemmas.Bool.Decides.{nat_tests}
-use Rattle.std.proofs.lemmas.List.{map-append, get_or_append_left, get_or-append-add}
+use Rattle.std.proofs.lemmas.List.{get_or_append_left}
 use Rattle.std.proofs.lemmas.List.Folds.{list_all-append}
-use Rattle.std.proofs.lemmas.Option.{slice_get-get_or, slice_get-map}
-use Rattle.std.specs.List.{list_all}
+use Rattle.std.proofs.lemmas.Option.{slice_get-get_or}
 use Rattle.snp_model.specs.declared.event.Event.{Event}
 use Rattle.snp_model.specs.declared.event.Outcome.{Outcome}
+use Rattle.snp_model.specs.Journal.{actors_of}
+use Rattle.run_journal.specs.declared.short.Mark.{Mark}
 use Rattle.run_journal.specs.declared.short.Short.{Short}
 use Rattle.run_journal.specs.Shorts.{outcome_at, entry_of, entries_of, are_within, AreShorts, Keeps}
 
@@ -63,71 +64,96 @@ of_le : (a b : ℕ) → a ≤ b → nat_le a b ≡ true
 of_le a b h = grind (arith, nat_tests)
 
 -- the events so far stay as they are
-entries_stay : (before now : List Outcome) (outcome : Option Outcome) (end : ℕ) (shorts : List Short) → Keeps before now outcome end → are_within (length before) shorts ≡ true → entries_of now shorts ≡ entries_of before shorts
-entries_stay before now outcome end [] keeps within = refl
-entries_stay before now outcome end (short ∷ shorts) keeps within =
-    let head : entry_of now short ≡ entry_of before short =
-    ap (λ (o : Option Outcome). let e : Event = record { item = short.item; attempt = short.attempt; deed = short.deed; outcome = o } in (short.actor, e)) (keeps.stays short.end (le_of _ _ (and_l _ _ within))) in
-    ap (λ (e : ℕ × Event). e ∷ entries_of now shorts) head ∙ ap (λ (es : List (ℕ × Event)). entry_of before short ∷ es) (entries_stay before now outcome end shorts keeps (and_r _ _ within))
+entries_stay : (before now : List Outcome) (outcome : Option Outcome) (end : ℕ) (marks : List Mark) (shorts : List Short) → Keeps before now outcome end → are_within (length before) marks ≡ true → entries_of now marks shorts ≡ entries_of before marks shorts
+entries_stay before now outcome end [] shorts keeps within = refl
+entries_stay before now outcome end (mark ∷ marks) [] keeps within = refl
+entries_stay before now outcome end (mark ∷ marks) (short ∷ shorts) keeps within =
+    let head : entry_of now mark short ≡ entry_of before mark short =
+    ap (λ (o : Option Outcome). let e : Event = record { item = short.item; attempt = short.attempt; deed = short.deed; outcome = o } in (mark.actor, e)) (keeps.stays mark.end (le_of _ _ (and_l _ _ within))) in
+    ap (λ (e : ℕ × Event). e ∷ entries_of now marks shorts) head ∙ ap (λ (es : List (ℕ × Event)). entry_of before mark short ∷ es) (entries_stay before now outcome end marks shorts keeps (and_r _ _ within))
+
+entries_join : (outcomes : List Outcome) (marks : List Mark) (shorts : List Short) (mark : Mark) (short : Short) → length marks ≡ length shorts
+    → entries_of outcomes (marks ++ mark ∷ []) (shorts ++ short ∷ []) ≡ entries_of outcomes marks shorts ++ entry_of outcomes mark short ∷ []
+entries_join outcomes [] [] mark short same = refl
+entries_join outcomes [] (s ∷ shorts) mark short same = absurd (omega arith)
+entries_join outcomes (m ∷ marks) [] mark short same = absurd (omega arith)
+entries_join outcomes (m ∷ marks) (s ∷ shorts) mark short same = ap (λ (es : List (ℕ × Event)). entry_of outcomes m s ∷ es) (entries_join outcomes marks shorts mark short (omega arith))
 
 -- and one is added
-pub entries_more : (before now : List Outcome) (event : Event) (end actor : ℕ) (shorts : List Short) (short : Short) → Keeps before now event.outcome end → are_within (length before) shorts ≡ true
-    → short ≡ record { actor = actor; item = event.item; attempt = event.attempt; end = end; deed = event.deed }
-    → entries_of now (shorts ++ short ∷ []) ≡ entries_of before shorts ++ (actor, event) ∷ []
-entries_more before now event end actor shorts short keeps within is =
-    let one : entry_of now short ≡ (actor, event) =
-    ap (entry_of now) is ∙ ap (λ (o : Option Outcome). let e : Event = record { item = event.item; attempt = event.attempt; deed = event.deed; outcome = o } in (actor, e)) keeps.value in
-    map-append (entry_of now) shorts (short ∷ [])
-    ∙ ap (λ (es : List (ℕ × Event)). es ++ entry_of now short ∷ []) (entries_stay before now event.outcome end shorts keeps within)
-    ∙ ap (λ (e : ℕ × Event). entries_of before shorts ++ e ∷ []) one
+pub entries_more : (before now : List Outcome) (event : Event) (end actor : ℕ) (marks : List Mark) (shorts : List Short) (mark : Mark) (short : Short) → Keeps before now event.outcome end → are_within (length before) marks ≡ true → length marks ≡ length shorts
+    → mark ≡ record { actor = actor; end = end } → short ≡ record { item = event.item; attempt = event.attempt; deed = event.deed }
+    → entries_of now (marks ++ mark ∷ []) (shorts ++ short ∷ []) ≡ entries_of before marks shorts ++ (actor, event) ∷ []
+entries_more before now event end actor marks shorts mark short keeps within same whose is =
+    let one : entry_of now mark short ≡ (actor, event) =
+    (λ i. entry_of now (whose i) (is i)) ∙ ap (λ (o : Option Outcome). let e : Event = record { item = event.item; attempt = event.attempt; deed = event.deed; outcome = o } in (actor, e)) keeps.value in
+    entries_join now marks shorts mark short same
+    ∙ ap (λ (es : List (ℕ × Event)). es ++ entry_of now mark short ∷ []) (entries_stay before now event.outcome end marks shorts keeps within)
+    ∙ ap (λ (e : ℕ × Event). entries_of before marks shorts ++ e ∷ []) one
 
-within_wider : (few many : ℕ) (shorts : List Short) → are_within few shorts ≡ true → few ≤ many → are_within many shorts ≡ true
+within_wider : (few many : ℕ) (marks : List Mark) → are_within few marks ≡ true → few ≤ many → are_within many marks ≡ true
 within_wider few many [] within h = refl
-within_wider few many (short ∷ shorts) within h =
-    let below = le_of short.end few (and_l _ _ within) in
-    ap (λ (b : Bool). b && are_within many shorts) (of_le short.end many (omega arith)) ∙ within_wider few many shorts (and_r _ _ within) h
+within_wider few many (mark ∷ marks) within h =
+    let below = le_of mark.end few (and_l _ _ within) in
+    ap (λ (b : Bool). b && are_within many marks) (of_le mark.end many (omega arith)) ∙ within_wider few many marks (and_r _ _ within) h
 
-pub within_more : (few many : ℕ) (shorts : List Short) (short : Short) → are_within few shorts ≡ true → few ≤ many → short.end ≤ many → are_within many (shorts ++ short ∷ []) ≡ true
-within_more few many shorts short within h e =
-    list_all-append (λ (s : Short). nat_le s.end many) shorts (short ∷ [])
-    ∙ ap (λ (b : Bool). b && are_within many (short ∷ [])) (within_wider few many shorts within h)
-    ∙ ap (λ (b : Bool). b && true) (of_le short.end many e)
+pub within_more : (few many : ℕ) (marks : List Mark) (mark : Mark) → are_within few marks ≡ true → few ≤ many → mark.end ≤ many → are_within many (marks ++ mark ∷ []) ≡ true
+within_more few many marks mark within h e =
+    list_all-append (λ (m : Mark). nat_le m.end many) marks (mark ∷ [])
+    ∙ ap (λ (b : Bool). b && are_within many (mark ∷ [])) (within_wider few many marks within h)
+    ∙ ap (λ (b : Bool). b && true) (of_le mark.end many e)
 
-pub within_at : (count k : ℕ) (shorts : List Short) (short : Short) → are_within count shorts ≡ true → k < length shorts → short ≡ get_or shorts k short → short.end ≤ count
-within_at count k [] short within h is = absurd (omega arith)
-within_at count zero (s ∷ shorts) short within h is = let b : s.end ≤ count = le_of _ _ (and_l _ _ within) in subst (λ (x : Short). x.end ≤ count) (sym is) b
-within_at count (suc k) (s ∷ shorts) short within h is = within_at count k shorts short (and_r _ _ within) (omega arith) is
+pub within_at : (count k : ℕ) (marks : List Mark) (mark : Mark) → are_within count marks ≡ true → k < length marks → mark ≡ get_or marks k mark → mark.end ≤ count
+within_at count k [] mark within h is = absurd (omega arith)
+within_at count zero (m ∷ marks) mark within h is = let b : m.end ≤ count = le_of _ _ (and_l _ _ within) in subst (λ (x : Mark). x.end ≤ count) (sym is) b
+within_at count (suc k) (m ∷ marks) mark within h is = within_at count k marks mark (and_r _ _ within) (omega arith) is
 
 -- no events
-pub shorts_none : (room outcome_room : ℕ) → room ≤ 2 ^ 32 - 1 → room ≤ outcome_room → AreShorts [] room [] outcome_room
-shorts_none room outcome_room small rooms = record { few = omega arith; fewer = omega arith; rooms = rooms; small = small; within = refl }
+pub shorts_none : (mark_room room outcome_room : ℕ) → room ≤ 2 ^ 32 - 1 → room ≤ mark_room → room ≤ outcome_room → AreShorts [] mark_room [] room [] outcome_room
+shorts_none mark_room room outcome_room small mark_rooms rooms = record { whose = refl; few = omega arith; fewer = omega arith; mark_rooms = mark_rooms; rooms = rooms; small = small; within = refl }
 
-pub entry_at : (outcomes : List Outcome) (shorts : List Short) (k : ℕ) (short : Short) → k < length shorts → short ≡ get_or shorts k short → slice_get (entries_of outcomes shorts) k ≡ Some (entry_of outcomes short)
-entry_at outcomes [] k short h is = absurd (omega arith)
-entry_at outcomes (s ∷ shorts) zero short h is = ap (λ (x : Short). Some (entry_of outcomes x)) (sym is)
-entry_at outcomes (s ∷ shorts) (suc k) short h is = entry_at outcomes shorts k short (omega arith) is
+-- each has its actor
+pub entry_at : (outcomes : List Outcome) (marks : List Mark) (shorts : List Short) (k : ℕ) (mark : Mark) (short : Short) → length marks ≡ length shorts → k < length shorts → mark ≡ get_or marks k mark → short ≡ get_or shorts k short
+    → slice_get (entries_of outcomes marks shorts) k ≡ Some (entry_of outcomes mark short)
+entry_at outcomes marks [] k mark short same h whose is = absurd (omega arith)
+entry_at outcomes [] (s ∷ shorts) k mark short same h whose is = absurd (omega arith)
+entry_at outcomes (m ∷ marks) (s ∷ shorts) zero mark short same h whose is = λ i. Some (entry_of outcomes (sym whose i) (sym is i))
+entry_at outcomes (m ∷ marks) (s ∷ shorts) (suc k) mark short same h whose is = entry_at outcomes marks shorts k mark short (omega arith) (omega arith) whose is
 
-pub length_entries : (outcomes : List Outcome) (shorts : List Short) → length (entries_of outcomes shorts) ≡ length shorts
-length_entries outcomes [] = refl
-length_entries outcomes (s ∷ shorts) = ap suc (length_entries outcomes shorts)
+pub actor_at : (outcomes : List Outcome) (marks : List Mark) (shorts : List Short) (k : ℕ) (mark : Mark) → length marks ≡ length shorts → k < length marks → mark ≡ get_or marks k mark → slice_get (actors_of (entries_of outcomes marks shorts)) k ≡ Some mark.actor
+unfolding actors_of
+actor_at outcomes [] shorts k mark same h whose = absurd (omega arith)
+actor_at outcomes (m ∷ marks) [] k mark same h whose = absurd (omega arith)
+actor_at outcomes (m ∷ marks) (s ∷ shorts) zero mark same h whose = ap (λ (x : Mark). Some x.actor) (sym whose)
+actor_at outcomes (m ∷ marks) (s ∷ shorts) (suc k) mark same h whose = actor_at outcomes marks shorts k mark (omega arith) (omega arith) whose
+
+pub length_entries : (outcomes : List Outcome) (marks : List Mark) (shorts : List Short) → length marks ≡ length shorts → length (entries_of outcomes marks shorts) ≡ length shorts
+length_entries outcomes [] shorts same = same
+length_entries outcomes (m ∷ marks) [] same = absurd (omega arith)
+length_entries outcomes (m ∷ marks) (s ∷ shorts) same = ap suc (length_entries outcomes marks shorts (omega arith))
 
 -- one event more
-pub shorts_more : (shorts now : List Short) (room now_room : ℕ) (before after : List Outcome) (outcome_room now_outcome_room : ℕ) (outcome : Option Outcome) (end : ℕ) (short : Short)
-    → AreShorts shorts room before outcome_room → Keeps before after outcome end → now ≡ shorts ++ short ∷ [] → now_room ≡ room → now_outcome_room ≡ outcome_room → short.end ≡ end → length shorts < room
-    → AreShorts now now_room after now_outcome_room
-shorts_more shorts now room now_room before after outcome_room now_outcome_room outcome end short are keeps adds same same_outcome ends some =
+pub shorts_more : (marks marks_now : List Mark) (mark_room now_mark_room : ℕ) (shorts now : List Short) (room now_room : ℕ) (before after : List Outcome) (outcome_room now_outcome_room : ℕ) (outcome : Option Outcome) (end : ℕ) (mark : Mark) (short : Short)
+    → AreShorts marks mark_room shorts room before outcome_room → Keeps before after outcome end → marks_now ≡ marks ++ mark ∷ [] → now ≡ shorts ++ short ∷ [] → now_mark_room ≡ mark_room → now_room ≡ room → now_outcome_room ≡ outcome_room
+    → mark.end ≡ end → length shorts < room
+    → AreShorts marks_now now_mark_room now now_room after now_outcome_room
+shorts_more marks marks_now mark_room now_mark_room shorts now room now_room before after outcome_room now_outcome_room outcome end mark short are keeps marked adds same_mark same same_outcome ends some =
     let longer : length now ≡ length shorts + 1 = ap length adds ∙ length-append shorts (short ∷ []) in
+    let longer_marks : length marks_now ≡ length marks + 1 = ap length marked ∙ length-append marks (mark ∷ []) in
+    let whose = are.whose in
     let few = are.few in
     let fewer = are.fewer in
+    let mark_rooms = are.mark_rooms in
     let rooms = are.rooms in
     let small = are.small in
     let little = keeps.little in
     let inside = keeps.inside in
-    let P : List Short → Type 0 = λ xs. are_within (length after) xs ≡ true in
+    let P : List Mark → Type 0 = λ xs. are_within (length after) xs ≡ true in
     record {
+      whose = omega arith;
       few = omega arith;
       fewer = omega arith;
+      mark_rooms = omega arith;
       rooms = omega arith;
       small = omega arith;
-      within = subst P (sym adds) (within_more (length before) (length after) shorts short are.within keeps.grows (omega arith));
+      within = subst P (sym marked) (within_more (length before) (length after) marks mark are.within keeps.grows (omega arith));
     }

@@ -1,8 +1,9 @@
--- A journal whose outcomes are kept apart from its events.
-use Rattle.std.specs.Prelude.{◌≡◌, ℕ, zero, suc, ◌+◌, ◌-◌, ◌^◌, ◌≤◌, Bool, true, nat_le, List, length, map, slice_get, Option, None}
+-- A journal whose actors and outcomes are kept apart from its events.
+use Rattle.std.specs.Prelude.{◌≡◌, ℕ, zero, suc, ◌+◌, ◌-◌, ◌^◌, ◌≤◌, Bool, true, nat_le, List, [], ◌∷◌, length, slice_get, Option, None}
 use Rattle.std.specs.List.{list_all}
 use Rattle.snp_model.specs.declared.event.Event.{Event}
 use Rattle.snp_model.specs.declared.event.Outcome.{Outcome}
+use Rattle.run_journal.specs.declared.short.Mark.{Mark}
 use Rattle.run_journal.specs.declared.short.Short.{Short}
 
 -- the outcome before a place, or none for place 0
@@ -11,23 +12,27 @@ outcome_at outcomes zero = None
 outcome_at outcomes (suc place) = slice_get outcomes place
 
 -- an event and its actor
-abbrev pub entry_of : List Outcome → Short → ℕ × Event
-entry_of outcomes short = (short.actor, record { item = short.item; attempt = short.attempt; deed = short.deed; outcome = outcome_at outcomes short.end })
+abbrev pub entry_of : List Outcome → Mark → Short → ℕ × Event
+entry_of outcomes mark short = (mark.actor, record { item = short.item; attempt = short.attempt; deed = short.deed; outcome = outcome_at outcomes mark.end })
 
-abbrev pub entries_of : List Outcome → List Short → List (ℕ × Event)
-entries_of outcomes shorts = map (entry_of outcomes) shorts
+abbrev pub entries_of : List Outcome → List Mark → List Short → List (ℕ × Event)
+entries_of outcomes [] shorts = []
+entries_of outcomes (mark ∷ marks) [] = []
+entries_of outcomes (mark ∷ marks) (short ∷ shorts) = entry_of outcomes mark short ∷ entries_of outcomes marks shorts
 
 -- the places are within so many outcomes
-abbrev pub are_within : ℕ → List Short → Bool
-are_within count shorts = list_all (λ short. nat_le short.end count) shorts
+abbrev pub are_within : ℕ → List Mark → Bool
+are_within count marks = list_all (λ mark. nat_le mark.end count) marks
 
--- there is room for all, and the places are within the outcomes
-pub record AreShorts (shorts : List Short) (room : ℕ) (outcomes : List Outcome) (outcome_room : ℕ) : Type 0 where
+-- every event has an actor, there is room for all, and the places are within the outcomes
+pub record AreShorts (marks : List Mark) (mark_room : ℕ) (shorts : List Short) (room : ℕ) (outcomes : List Outcome) (outcome_room : ℕ) : Type 0 where
+  pub whose : length marks ≡ length shorts
   pub few : length shorts ≤ room
   pub fewer : length outcomes ≤ length shorts
+  pub mark_rooms : room ≤ mark_room
   pub rooms : room ≤ outcome_room
   pub small : room ≤ 2 ^ 32 - 1
-  pub within : are_within (length outcomes) shorts ≡ true
+  pub within : are_within (length outcomes) marks ≡ true
 
 -- an outcome is kept before a place, and the earlier places stay as they are
 pub record Keeps (before now : List Outcome) (outcome : Option Outcome) (end : ℕ) : Type 0 where

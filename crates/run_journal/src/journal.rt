@@ -1,15 +1,18 @@
 ghost use Rattle.std.specs.Prelude.{◌≡◌, ◌<◌, ◌≤◌, ◌^◌, ◌-◌, ◌==◌, [], ◌∷◌, ◌++◌, length, slice_get, vec_capacity, IfOk, Some};
+ghost use Rattle.snp_model.specs.Journal.{actors_of};
 ghost use Rattle.run_journal.specs.Shorts.{Keeps, outcome_at};
 
-use crate::short::Short;
+use crate::short::{Mark, Short};
 use snp_model::{Event, Outcome};
 use std::alloc::{AllocError, Global};
 use std::marker::Model;
 
 /// The events of a run with their actors, the oldest first. It has its memory from the start. Outcomes are much
-/// larger than the rest of an event, and most events have none, so they are kept apart.
+/// larger than the rest of an event, and most events have none, so they are kept apart. Actors are kept apart since the
+/// order of a report needs nothing else of an event, and outcomes' places beside them, so that no memory is padding.
 #[derive(Debug, Drop)]
 pub struct Journal {
+    marks: Vec<Mark>,
     events: Vec<Short>,
     outcomes: Vec<Outcome>,
 }
@@ -21,9 +24,9 @@ impl Model for Journal {
 
     ghost Value = { JournalImage };
 
-    ghost view = { λ j. record { list = entries_of j.outcomes.items j.events.items; room = vec_capacity j.events } };
+    ghost view = { λ j. record { list = entries_of j.outcomes.items j.marks.items j.events.items; room = vec_capacity j.events } };
 
-    ghost invariant = { λ j. AreShorts j.events.items (vec_capacity j.events) j.outcomes.items (vec_capacity j.outcomes) };
+    ghost invariant = { λ j. AreShorts j.marks.items (vec_capacity j.marks) j.events.items (vec_capacity j.events) j.outcomes.items (vec_capacity j.outcomes) };
 }
 
 impl Journal {
@@ -35,28 +38,34 @@ impl Journal {
         if room > 0xffff_ffff {
             return Err(AllocError);
         }
+        let marks = Vec::with_capacity(alloc, room)?;
         let events = Vec::with_capacity(alloc, room)?;
         let outcomes = Vec::with_capacity(alloc, room)?;
-        Ok(Journal { events, outcomes })
+        Ok(Journal {
+            marks,
+            events,
+            outcomes,
+        })
     }
 
     /// Adds an event of an actor. Takes no memory.
+    #[tactic(auto, using(crate::proofs::ShortLaws::length_entries))]
     pub fn push(&mut self, actor: u32, event: Event)
         requires { length self.old.list < self.old.room }
         ensures list { self.new.list ≡ self.old.list ++ (actor, event) ∷ [] }
         ensures room { self.new.room ≡ self.old.room }
     {
         let end = keep_outcome(&mut self.outcomes, &event.outcome);
+        self.marks.push_reserved(Mark { actor, end });
         self.events.push_reserved(Short {
-            actor,
             item: event.item,
             attempt: event.attempt,
-            end,
             deed: event.deed,
         });
     }
 
     /// How many events there are.
+    #[tactic(auto, using(crate::proofs::ShortLaws::length_entries))]
     pub fn len(&self) -> usize
         ensures { result ≡ length self.now.list }
     {
@@ -71,18 +80,29 @@ impl Journal {
     }
 
     /// Event k, from 0, and its actor.
+    #[tactic(auto, using(crate::proofs::ShortLaws::length_entries, crate::proofs::ShortLaws::within_at, crate::proofs::ShortLaws::entry_at))]
     pub fn get(&self, k: usize) -> (u32, Event)
         requires { k < length self.now.list }
         ensures { slice_get self.now.list k ≡ Some result }
     {
+        let mark = self.marks[k];
         let short = self.events[k];
         let event = Event {
             item: short.item,
             attempt: short.attempt,
             deed: short.deed,
-            outcome: outcome_at(&self.outcomes, short.end),
+            outcome: outcome_at(&self.outcomes, mark.end),
         };
-        (short.actor, event)
+        (mark.actor, event)
+    }
+
+    /// The actor of event k, from 0.
+    #[tactic(auto, using(crate::proofs::ShortLaws::length_entries, crate::proofs::ShortLaws::actor_at))]
+    pub fn actor(&self, k: usize) -> u32
+        requires { k < length self.now.list }
+        ensures { slice_get (actors_of self.now.list) k ≡ Some result }
+    {
+        self.marks[k].actor
     }
 }
 

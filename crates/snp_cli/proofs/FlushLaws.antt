@@ -1,11 +1,12 @@
 -- What a flush leaves of what was written before it: all, since it adds nothing to what a writer has taken.
-use Rattle.std.proofs.Common.{◌≡◌, ℕ, ◌<◌, ◌≤◌, ◌⊎◌, ◌≢◌, zero, suc, List, [], Option, Some, None, sym, ◌∙◌, subst, inl, inr, append-nil, arith}
+use Rattle.std.proofs.Common.{◌≡◌, Bool, IfSome, ℕ, ◌<◌, ◌≤◌, ◌⊎◌, ◌≢◌, zero, suc, List, [], Option, Some, None, sym, ◌∙◌, subst, inl, inr, append-nil, arith}
+use Rattle.snp_model.specs.declared.scenario.Scenario.{Scenario}
 use Rattle.snp_model.specs.Ending.{report_of}
 use Rattle.snp_model.specs.Outside.{Adds, AddsPrefix, Rose}
-use Rattle.snp_model.specs.Reading.{order_of}
 use Rattle.snp_model.proofs.Adding.{adds_twice}
-use Rattle.snp_top.specs.Batch.{ForScenario, SaysBadTurn, SaysCutReport, SaysLimit, SaysRefusal, SaysRun, WritesLine}
-use Rattle.snp_top.specs.Replays.{IsRead}
+use Rattle.snp_top.specs.Batch.{SaysBadTurn, SaysLimit, SaysRefusal, WritesLine}
+use Rattle.snp_top.specs.Replays.{IsRead, ReadsText, SaysOne}
+use Rattle.snp_top.specs.Runs.{IsReported}
 
 adds_kept : (old mid now : Option (List ℕ)) (bytes : List ℕ) → Adds old mid bytes → Adds mid now [] → Adds old now bytes
 adds_kept old mid now bytes adds flushed = subst (Adds old now) (append-nil bytes) (adds_twice old mid now bytes [] adds flushed)
@@ -24,9 +25,22 @@ line_kept : (old mid now : Option (List ℕ)) (before between after : ℕ) (line
 line_kept old mid now before between after line (inl adds) flushed later = inl (adds_kept old mid now line adds flushed)
 line_kept old mid now before between after line (inr cut) flushed later = inr (prefix_kept old mid now line cut.0 flushed, rose_kept before between after cut.1 later)
 
-pub report_kept : (left old mid now : Option (List ℕ)) → ForScenario left (λ c. Adds old mid (report_of c (order_of c))) → Adds mid now [] → ForScenario left (λ c. Adds old now (report_of c (order_of c)))
-report_kept None old mid now adds flushed = tt
-report_kept (Some text) old mid now adds flushed = λ c says. adds_kept old mid now (report_of c (order_of c)) (adds c says) flushed
+-- what is so of a report's bytes may be told of it otherwise
+reported_as : (to_ends : Bool) (c : Scenario) (P Q : List ℕ → Type 0) → ((bytes : List ℕ) → P bytes → Q bytes) → IsReported to_ends c P → IsReported to_ends c Q
+reported_as to_ends c P Q gives reported = record {
+  schedule = reported.schedule;
+  chosen = reported.chosen;
+  defined = reported.defined;
+  ordered = reported.ordered;
+  legal = reported.legal;
+  spelled = reported.spelled;
+  written = gives (report_of c reported.schedule) reported.written;
+}
+
+pub report_kept : (to_ends : Bool) (left old mid now : Option (List ℕ)) → IfSome left (SaysOne (λ c. IsReported to_ends c (Adds old mid))) → Adds mid now [] → IfSome left (SaysOne (λ c. IsReported to_ends c (Adds old now)))
+report_kept to_ends None old mid now reported flushed = tt
+report_kept to_ends (Some text) old mid now reported flushed =
+    (reported.0, reported.1, reported_as to_ends reported.0 (Adds old mid) (Adds old now) (λ bytes adds. adds_kept old mid now bytes adds flushed) reported.2)
 
 pub refusal_kept : (left taken old mid now : Option (List ℕ)) (before between after : ℕ) → SaysRefusal left taken old mid before between → Adds mid now [] → between ≤ after → SaysRefusal left taken old now before after
 refusal_kept left taken old mid now before between after refused flushed later = (refused.0, refused.1, refused.2, line_kept old mid now before between after _ refused.3 flushed later)
@@ -37,21 +51,21 @@ limit_kept left taken old mid now before between after passed flushed later = (p
 pub bad_turn_kept : (left taken old mid now : Option (List ℕ)) (before between after : ℕ) → SaysBadTurn left taken old mid before between → Adds mid now [] → between ≤ after → SaysBadTurn left taken old now before after
 bad_turn_kept left taken old mid now before between after bad flushed later = (bad.0, bad.1, bad.2, line_kept old mid now before between after _ bad.3 flushed later)
 
-pub cut_kept : (left taken old mid now : Option (List ℕ)) → SaysCutReport left taken old mid → Adds mid now [] → SaysCutReport left taken old now
-cut_kept None taken old mid now cut flushed = tt
-cut_kept (Some text) taken old mid now cut flushed =
+pub cut_kept : (to_ends : Bool) (left taken old mid now : Option (List ℕ)) → ReadsText left taken (SaysOne (λ c. IsReported to_ends c (AddsPrefix old mid))) → Adds mid now [] → ReadsText left taken (SaysOne (λ c. IsReported to_ends c (AddsPrefix old now)))
+cut_kept to_ends None taken old mid now cut flushed = tt
+cut_kept to_ends (Some text) taken old mid now cut flushed =
     let one = cut.1 in
-    (cut.0, (one.0, one.1, (one.2.0, prefix_kept old mid now (report_of one.0 (order_of one.0)) one.2.1 flushed)))
+    (cut.0, (one.0, one.1, reported_as to_ends one.0 (AddsPrefix old mid) (AddsPrefix old now) (λ bytes adds. prefix_kept old mid now bytes adds flushed) one.2))
 
 -- a whole report is a front of itself
 whole_cut : (old now : Option (List ℕ)) (bytes : List ℕ) → Adds old now bytes → AddsPrefix old now bytes
 whole_cut old now bytes adds = record { rest = []; left = record { front = bytes; adds = adds; parts = sym (append-nil bytes) } }
 
-pub report_cut : (left taken old mid now : Option (List ℕ)) → IsRead left taken → SaysRun left → ForScenario left (λ c. Adds old mid (report_of c (order_of c))) → Adds mid now [] → SaysCutReport left taken old now
-report_cut None taken old mid now read run adds flushed = tt
-report_cut (Some text) taken old mid now read run adds flushed =
-    let report = report_of run.0 (order_of run.0) in
-    (read, (run.0, run.1, (run.2, whole_cut old now report (adds_kept old mid now report (adds run.0 run.1) flushed))))
+pub report_cut : (to_ends : Bool) (left taken old mid now : Option (List ℕ)) → IsRead left taken → IfSome left (SaysOne (λ c. IsReported to_ends c (Adds old mid))) → Adds mid now []
+    → ReadsText left taken (SaysOne (λ c. IsReported to_ends c (AddsPrefix old now)))
+report_cut to_ends None taken old mid now read reported flushed = tt
+report_cut to_ends (Some text) taken old mid now read reported flushed =
+    (read, (reported.0, reported.1, reported_as to_ends reported.0 (Adds old mid) (AddsPrefix old now) (λ bytes adds. whole_cut old now bytes (adds_kept old mid now bytes adds flushed)) reported.2))
 
 -- the status of a command whose output couldn't be handed on is 6 for 0, and else its own
 pub record IsUnflushed (status result : ℕ) : Type 0 where

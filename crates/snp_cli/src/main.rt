@@ -1,4 +1,4 @@
-//! The program: `snp replay < SCENARIO`.
+//! The program: `snp replay < SCENARIO`, `snp run < SCENARIO`.
 #![tactic(auto)]
 
 mod session;
@@ -6,7 +6,8 @@ mod session;
 mod tests;
 
 use crate::session::answer;
-use outside_port::{ReaderSource, WriterSink};
+use outside_port::{OpenGate, ReaderSource, WriterSink};
+use snp_top::locked_fleet::LockedFleet;
 use std::io::{BufWriter, Read, Write};
 use std::process::ExitCode;
 use std::{env, io};
@@ -26,7 +27,16 @@ fn main(rt: HostRuntime) -> ExitCode {
     };
     let mut source = ReaderSource::new(rt.stdin());
     let mut sink = WriterSink::new(output);
-    ExitCode::from(answer(rt.alloc(), &words, &mut source, &mut sink))
+    let mut fleet = LockedFleet::new();
+    ExitCode::from(answer(
+        &rt,
+        rt.alloc(),
+        &words,
+        &mut source,
+        &mut sink,
+        &OpenGate,
+        &mut fleet,
+    ))
 }
 
 // The words after the program's name.

@@ -1,6 +1,7 @@
 //! Writers that fail under a report, and behind it.
 use crate::session::answer;
-use outside_port::{MemorySource, WriterSink};
+use outside_port::{MemorySource, OpenGate, WriterSink};
+use snp_top::locked_fleet::LockedFleet;
 use std::io::{self, BufWriter, ErrorKind, Write};
 use std::test::Fail;
 
@@ -45,6 +46,8 @@ fn writers_that_fail(rt: HostRuntime) -> Result<(), Fail> {
         ("replay", EMPTY, Trouble::AtTheFlush, 6),
         ("replay", EMPTY, Trouble::AtWrites, 6),
         ("replay", EMPTY, Trouble::Full, 6),
+        ("run", EMPTY, Trouble::Nowhere, 0),
+        ("run", EMPTY, Trouble::AtTheFlush, 6),
         ("replay", "snp 1\n", Trouble::AtTheFlush, 3),
         ("play", EMPTY, Trouble::AtTheFlush, 2),
     ] {
@@ -54,9 +57,18 @@ fn writers_that_fail(rt: HostRuntime) -> Result<(), Fail> {
             4096,
             Vec::new(alloc),
         );
+        let mut fleet = LockedFleet::new();
         let mut sink = WriterSink::new(BufWriter::with_capacity(alloc, 65_536, Troubled(trouble))?);
         assert_eq!(rt;
-            answer(alloc, &words, &mut source, &mut sink),
+            answer(
+                &rt,
+                alloc,
+                &words,
+                &mut source,
+                &mut sink,
+                &OpenGate,
+                &mut fleet
+            ),
             status,
             "{word} {status}"
         );

@@ -9,7 +9,7 @@ use Rattle.snp_model.specs.declared.scenario.Scenario.{Scenario}
 use Rattle.snp_model.specs.CommandLine.{are_words}
 use Rattle.snp_model.specs.Ending.{report_of}
 use Rattle.snp_model.specs.Findings.{says, wrong, too_much}
-use Rattle.snp_model.specs.GuestMemory.{AreLegal}
+use Rattle.snp_model.specs.Premises.{AreLegal}
 use Rattle.snp_model.specs.Limits.{most}
 use Rattle.snp_model.specs.Opening.{opening}
 use Rattle.snp_model.specs.Outside.{Adds, AddsPrefix, Rose}
@@ -103,7 +103,7 @@ same_scenario : (text : List ℕ) (c d : Scenario) → Reads text c → Reads te
 same_scenario text c d one other = let e = one_finding text (says c) (says d) one other in cc
 
 -- what is said is valid
-said_valid : (text : List ℕ) (c : Scenario) → Reads text c → Valid c
+pub said_valid : (text : List ℕ) (c : Scenario) → Reads text c → Valid c
 said_valid text c reads = (reads.lines, reads.makes)
 
 -- what holds of the scenario that was read holds of every scenario that the text says
@@ -217,10 +217,10 @@ if_some : (P : List ℕ → Type 0) (left : Option (List ℕ)) (text : List ℕ)
 if_some P left text is h = subst (λ (l : Option (List ℕ)). IfSome l P) is h
 
 -- a text that says a scenario is neither refused nor passes a limit
-said_or_wrong : (text : List ℕ) (c : Scenario) (line : ℕ) (reason : Reason) → Reads text c → Refuses text line reason → ⊥
+pub said_or_wrong : (text : List ℕ) (c : Scenario) (line : ℕ) (reason : Reason) → Reads text c → Refuses text line reason → ⊥
 said_or_wrong text c line reason one other = let e = one_finding text (says c) (wrong line reason) one other in cc
 
-said_or_too_much : (text : List ℕ) (c : Scenario) (quantity : Quantity) (count : ℕ) → Reads text c → Passes text quantity count → ⊥
+pub said_or_too_much : (text : List ℕ) (c : Scenario) (quantity : Quantity) (count : ℕ) → Reads text c → Passes text quantity count → ⊥
 said_or_too_much text c quantity count one other = let e = one_finding text (says c) (too_much quantity count) one other in cc
 
 wrong_or_too_much : (text : List ℕ) (line : ℕ) (reason : Reason) (quantity : Quantity) (count : ℕ) → Refuses text line reason → Passes text quantity count → ⊥

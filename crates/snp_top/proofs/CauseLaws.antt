@@ -16,6 +16,7 @@ use Rattle.snp_top.specs.declared.fault.CommandFault.TheVariants as faults
 use Rattle.snp_top.specs.Faults.{text_fault}
 use Rattle.snp_top.specs.Input.{HasInputCause, TakesExactly}
 use Rattle.snp_top.specs.Replays.{HasReplayCause, ReadsSome, ReadsText}
+use Rattle.snp_top.specs.Runs.{IsNoTurn}
 
 -- a text of which one byte too many was read
 too_long : (left now : Option (List ℕ)) (quantity : Quantity) (count : ℕ) → TakesExactly (most Bytes + 1) left now → quantity ≡ Bytes → count ≡ most Bytes + 1 → ReadsSome left now (λ text. Passes text quantity count)
@@ -56,3 +57,21 @@ pub made_cause : (left now : Option (List ℕ)) (before after : ℕ) (bytes text
     → Answers (let answer : Result Scenario ScenarioFault = Err fault in answer) text → HasReplayCause left now before after made
 made_cause left now before after bytes text fault made is takes same short answers =
     subst (HasReplayCause left now before after) (sym is) (text_cause left now before after bytes text fault takes same short answers)
+
+-- neither what keeps a text from being read nor what is wrong with it is an entry of a schedule
+pub input_no_turn : (left now : Option (List ℕ)) (before after : ℕ) (fault : CommandFault) → HasInputCause left now before after fault → IsNoTurn fault
+input_no_turn left now before after (faults.Schedule turn) cause = absurd cause
+input_no_turn left now before after faults.Words cause = tt
+input_no_turn left now before after (faults.Scenario line reason) cause = tt
+input_no_turn left now before after (faults.Limit quantity count) cause = tt
+input_no_turn left now before after faults.Read cause = tt
+input_no_turn left now before after faults.Write cause = tt
+input_no_turn left now before after faults.Memory cause = tt
+
+text_no_turn : (fault : ScenarioFault) → IsNoTurn (text_fault fault)
+text_no_turn (texts.Refused line reason) = tt
+text_no_turn (texts.Limit quantity count) = tt
+text_no_turn (texts.Memory error) = tt
+
+pub made_no_turn : (fault : ScenarioFault) (made : CommandFault) → made ≡ text_fault fault → IsNoTurn made
+made_no_turn fault made is = subst IsNoTurn (sym is) (text_no_turn fault)

@@ -3,7 +3,7 @@ ghost use Rattle.std.specs.Prelude.{◌≡◌, ℕ, ◌+◌, ◌≤◌, ◌<◌,
 ghost use Rattle.snp_model.specs.declared.scenario.Scenario.{Scenario};
 ghost use Rattle.snp_model.specs.CommandLine.{are_words};
 ghost use Rattle.snp_model.specs.Ending.{report_of};
-ghost use Rattle.snp_model.specs.GuestMemory.{AreLegal};
+ghost use Rattle.snp_model.specs.Premises.{AreLegal};
 ghost use Rattle.snp_model.specs.Limits.{most};
 ghost use Rattle.snp_model.specs.Opening.{opening};
 ghost use Rattle.snp_model.specs.Outside.{Adds, Rose};
@@ -31,7 +31,7 @@ fn are_words(words: &Vec<String>) -> bool
     words.len() == 1 && is_word(words[0].as_bytes(), b"replay")
 }
 
-fn is_word(word: &[u8], name: &[u8]) -> bool
+pub(crate) fn is_word(word: &[u8], name: &[u8]) -> bool
     ensures { result ≡ bytes_eq word.now name.now }
 {
     word == name
@@ -111,7 +111,7 @@ pub fn snp_batch<S: Source, K: Sink>(
 }
 
 // The exit status of a command.
-fn exit_status(outcome: Result<(), CommandFault>) -> u8
+pub(crate) fn exit_status(outcome: Result<(), CommandFault>) -> u8
     ensures { result ≡ exit_status outcome }
 {
     match outcome {
@@ -157,7 +157,7 @@ fn report<K: Sink>(played: &Played, sink: &mut K) -> Result<(), CommandFault>
 }
 
 // Writes the error line of a fault, or a front of it where the sink fails, and gives the fault back.
-fn refuse<K: Sink>(fault: CommandFault, sink: &mut K) -> CommandFault
+pub(crate) fn refuse<K: Sink>(fault: CommandFault, sink: &mut K) -> CommandFault
     ensures same { result ≡ fault }
     ensures later { K.faults sink.old ≤ K.faults sink.new }
     ensures line { WritesLine (K.written sink.old) (K.written sink.new) (K.faults sink.old) (K.faults sink.new) (error_line fault) }

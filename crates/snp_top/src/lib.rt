@@ -4,8 +4,14 @@
 pub mod batch;
 mod errors;
 pub mod fault;
+pub mod fleet;
 pub mod input;
+pub mod locked_fleet;
+pub mod program;
 pub mod replay;
+pub mod run;
+#[cfg(test)]
+mod run_tests;
 pub mod schedule;
 #[cfg(test)]
 mod tests;

@@ -3,9 +3,10 @@ ghost use Rattle.std.specs.Prelude.{◌≡◌, ◌+◌, ◌≤◌, [], length, I
 ghost use Rattle.machine_core.specs.Machine.{state_of};
 ghost use Rattle.snp_model.specs.Ending.{lines_of};
 ghost use Rattle.snp_model.specs.Limits.{most};
-ghost use Rattle.snp_model.specs.Reading.{Valid};
+ghost use Rattle.snp_model.specs.Reading.{Reads, Valid};
 ghost use Rattle.snp_top.specs.Input.{TakesAtMost};
-ghost use Rattle.snp_top.specs.Replays.{ReplaysTo, RunsTo};
+ghost use Rattle.snp_top.specs.Replays.{HasReplayCause, ReadsText, ReplaysTo, RunsTo};
+ghost use Rattle.snp_top.specs.Runs.{IsNoTurn};
 
 use crate::fault::CommandFault;
 use crate::input::read_text;
@@ -33,12 +34,27 @@ pub fn replay<S: Source>(alloc: Global, source: &mut S) -> Result<Played, Comman
     ensures taken { TakesAtMost (most Quantity.Bytes + 1) (S.left source.old) (S.left source.new) }
     ensures later { S.faults source.old ≤ S.faults source.new }
 {
+    match read(alloc, source) {
+        Ok(scenario) => run(alloc, &scenario),
+        Err(fault) => Err(fault),
+    }
+}
+
+/// Reads the scenario that the text of a source says.
+pub fn read<S: Source>(alloc: Global, source: &mut S) -> Result<Scenario, CommandFault>
+    ensures said { IfOk result (λ scenario. ReadsText (S.left source.old) (S.left source.new) (λ text. Reads text scenario)) }
+    ensures valid { IfOk result Valid }
+    ensures cause { IfErr result (HasReplayCause (S.left source.old) (S.left source.new) (S.faults source.old) (S.faults source.new)) }
+    ensures no_turn { IfErr result IsNoTurn }
+    ensures taken { TakesAtMost (most Quantity.Bytes + 1) (S.left source.old) (S.left source.new) }
+    ensures later { S.faults source.old ≤ S.faults source.new }
+{
     let text = match read_text(alloc, source) {
         Ok(text) => text,
         Err(fault) => return Err(fault),
     };
     match read_scenario(alloc, text.as_slice()) {
-        Ok(scenario) => run(alloc, &scenario),
+        Ok(scenario) => Ok(scenario),
         Err(fault) => Err(CommandFault::from(fault)),
     }
 }
@@ -68,7 +84,7 @@ pub fn run(alloc: Global, scenario: &Scenario) -> Result<Played, CommandFault>
 
 // Takes down what is said of each guest.
 #[tactic(auto, unfolding(snp_model::specs::Ending::lines_from))]
-fn take_guests(machine: &Machine, guests: &mut Vec<GuestLine>)
+pub(crate) fn take_guests(machine: &Machine, guests: &mut Vec<GuestLine>)
     requires empty { guests.old.items ≡ [] }
     requires room { length (state_of machine.now).guests ≤ vec_capacity guests.old }
     ensures { guests.new.items ≡ lines_of (state_of machine.now) }

@@ -246,19 +246,20 @@ guest 2 launching c5c5c5c5c5c5c5c5c5c5c5c5c5c5c5c5c5c5c5c5c5c5c5c5c5c5c5c5c5c5c5
 end 18
 ";
 
-// A report of 24 lines, of which the write of each fails in turn, and one where there is no room.
+// A report of 24 lines in 7 writes, one of them for all 18 events: each fails in turn, behind so many lines. And one where
+// there is no room.
 #[test]
 fn reports(rt: HostRuntime) -> Result<(), Fail> {
     let alloc = rt.alloc();
-    for k in 0..24 {
+    for (k, whole) in [(0, 0), (1, 1), (2, 19), (3, 20), (4, 21), (5, 22), (6, 23)] {
         let failing = vec![in alloc; k]?;
         let mut sink = MemorySink::with_room(alloc, 2048, failing)?;
         assert!(rt; !small_report(&rt, &mut sink)?);
         let lines = sink.bytes().iter().filter(|byte| **byte == b'\n').count();
-        assert!(rt; lines == k as usize);
+        assert!(rt; lines == whole);
         assert!(rt; REPORT.as_bytes().starts_with(sink.bytes()));
     }
-    let mut sink = MemorySink::with_room(alloc, 2048, vec![in alloc; 24]?)?;
+    let mut sink = MemorySink::with_room(alloc, 2048, vec![in alloc; 7]?)?;
     assert!(rt; small_report(&rt, &mut sink)?);
     assert!(rt; sink.bytes() == REPORT.as_bytes());
     let mut full = MemorySink::with_room(alloc, 0, Vec::new(alloc))?;
@@ -393,7 +394,8 @@ fn a_replay_and_its_failures(rt: HostRuntime) -> Result<(), Fail> {
         (never, never, 1000, 0, ITS_REPORT),
         (0, never, 1000, 5, line.as_slice()),
         (3, never, 1000, 5, line.as_slice()),
-        (never, 2, 1000, 6, &ITS_REPORT[..27]),
+        (never, 1, 1000, 6, &ITS_REPORT[..13]),
+        (never, 2, 1000, 6, &ITS_REPORT[..288]),
         (never, never, 0, 6, b"".as_slice()),
         (0, 0, 1000, 5, b"".as_slice()),
     ] {
@@ -561,6 +563,34 @@ fn refusals(rt: HostRuntime) -> Result<(), Fail> {
         let answered = snp_batch(alloc, &words, &mut source, &mut sink);
         assert!(rt; sink.bytes() == error.as_bytes(), "{error}");
         assert_eq!(rt; answered, status, "{error}");
+    }
+    Ok(())
+}
+
+// Replays 181 loads, and gives the status.
+fn replay_loads(rt: &HostRuntime, sink: &mut MemorySink) -> Result<u8, Fail> {
+    let alloc = rt.alloc();
+    let words = vec![in alloc; String::from_str(alloc, "replay")?]?;
+    let text = with_lines(alloc, LOAD, b"load 0x10\n", 180, b"order 1*1086\nend\n")?;
+    let mut source = MemorySource::over(text, 65_536, Vec::new(alloc));
+    Ok(snp_batch(alloc, &words, &mut source, sink))
+}
+
+// A report whose events take several writes: each of its writes fails in turn, behind a whole line and further on than the
+// one before.
+#[test]
+fn long_reports(rt: HostRuntime) -> Result<(), Fail> {
+    let alloc = rt.alloc();
+    let mut whole = MemorySink::with_room(alloc, 65_536, vec![in alloc; 8]?)?;
+    assert_eq!(rt; replay_loads(&rt, &mut whole)?, 0);
+    let mut front = 0;
+    for k in 0..8 {
+        let mut sink = MemorySink::with_room(alloc, 65_536, vec![in alloc; k]?)?;
+        assert_eq!(rt; replay_loads(&rt, &mut sink)?, 6);
+        assert!(rt; whole.bytes().starts_with(sink.bytes()));
+        assert!(rt; sink.bytes().len() > front || k == 0);
+        assert!(rt; sink.bytes().ends_with(b"\n") || k == 0);
+        front = sink.bytes().len();
     }
     Ok(())
 }

@@ -1,24 +1,32 @@
-use Rattle.std.proofs.Common.{ℕ, List, ap, ◌∙◌, arith}
-use Rattle.std.proofs.lemmas.List.{drop_all}
+use Rattle.std.proofs.Common.{take, arith}
 use Rattle.std.proofs.lemmas.Result.{err_from_is_err_and}
-use Rattle.snp_model.specs.declared.event.Event.{Event}
-use Rattle.snp_model.specs.Report.{event_lines}
-use Rattle.snp_model.proofs.Adding.{left_after, left_done, prefix_after}
-use Rattle.report_text.proofs.Lines.{event_at, no_events}
+use Rattle.snp_model.proofs.Adding.{adds_none, left_after, prefix_after, writes_last}
+use Rattle.report_text.proofs.Lines.{event_behind, events_end}
+use Rattle.report_text.proofs.report.write_events.Goals.{then-end+in_ok-write_all, else-end}
 use Rattle.report_text.proofs.report.write_events.Goals as goal
 
-pub returns-in_err-write_event-clause-text : goal.returns-in_err-write_event-clause-text
-returns-in_err-write_event-clause-text g c =
+pub returns-in_err-write_all-clause-text : goal.returns-in_err-write_all-clause-text
+returns-in_err-write_all-clause-text g c =
     let p = err_from_is_err_and c.from_residual.result c.from_residual.ensures.1 in
-    rw p.1 (prefix_after _ _ _ _ _ _ _ c.loop-k.invariant.left c.in_err-write_event.ensures.text (event_at _ _ _ c.get-actor.ensures))
+    rw p.1 (prefix_after _ _ _ _ _ _ _ c.loop-k.invariant.left c.in_err-write_all.ensures.text (event_behind _ _ _ _ _ c.get-actor.ensures c.put_event-end.ensures.text))
 
 pub loop-k-preserved : goal.loop-k-preserved
-loop-k-preserved g c = record {
-  later = omega arith;
-  left = left_after _ _ _ _ _ _ _ c.loop-k.invariant.left c.in_ok-write_event.ensures.text (event_at _ _ _ c.get-actor.ensures);
-}
+loop-k-preserved g c =
+    elim c.if-end.branch [
+      | then-end+in_ok-write_all w ↦ record {
+        room = omega arith;
+        later = rw w.sink-is (omega arith);
+        left = rw w.end-is (rw w.sink-is (left_after _ _ _ _ _ _ _ c.loop-k.invariant.left w.in_ok-write_all.ensures.text (event_behind _ _ _ _ _ c.get-actor.ensures c.put_event-end.ensures.text)));
+      }
+      | else-end w ↦ record {
+        room = omega arith;
+        later = rw w.sink-is (omega arith);
+        left = rw w.end-is (rw w.sink-is (left_after _ _ _ _ _ _ _ c.loop-k.invariant.left (adds_none _) (event_behind _ _ _ _ _ c.get-actor.ensures c.put_event-end.ensures.text)));
+      }
+    ]
 
 pub returns-clause-text : goal.returns-clause-text
 returns-clause-text g c =
-    let k = c.loop-k.k in
-    left_done _ _ _ _ (ap (λ (entries : List (ℕ × Event)). event_lines k entries) (drop_all k c.args.journal.now.list (omega arith)) ∙ no_events k) c.loop-k.invariant.left
+    let front = take c.loop-k.end c.loop-k.buffer in
+    let last = left_after _ _ _ _ _ _ _ c.loop-k.invariant.left (adds_none _) (events_end front c.args.journal.now.list c.loop-k.k (omega arith)) in
+    writes_last _ _ _ _ _ _ last c.write_all-2.ensures.text

@@ -4,50 +4,49 @@ use Rattle.snp_cli.proofs.session.answer.Goals as goal
 
 pub returns-in-Ok : goal.returns-in-Ok
 returns-in-Ok g c =
-    let batch = c.snp_batch-status.ensures in
+    let main = c.snp_main-status.ensures in
     let flushed = c.in-Ok.ensures.written in
     let later = c.in-Ok.ensures.later in
     record {
-      source_read = batch.source_read;
-      scenario_read = batch.scenario_read;
-      report_written = λ zero. report_kept _ _ _ _ (batch.report_written zero) flushed;
-      items_in_order = batch.items_in_order;
-      guest_memory_legal = batch.guest_memory_legal;
-      statuses = batch.statuses;
-      words_refused = batch.words_refused;
-      scenario_refused = λ three. refusal_kept _ _ _ _ _ _ _ _ (batch.scenario_refused three) flushed later;
-      limit_passed = λ four. limit_kept _ _ _ _ _ _ _ _ (batch.limit_passed four) flushed later;
-      read_failed = batch.read_failed;
-      write_failed = λ six. rose_kept _ _ _ (batch.write_failed six) later;
-      report_cut = λ six. cut_kept _ _ _ _ _ (batch.report_cut six) flushed;
-      schedule_refused = λ eight. bad_turn_kept _ _ _ _ _ _ _ _ (batch.schedule_refused eight) flushed later;
-      complete = λ text c' fits left reads defined no_read no_write.
-          batch.complete text c' fits left reads defined no_read (λ rose. no_write (rose_kept _ _ _ rose later));
+      source_read = main.source_read;
+      reported = λ zero. report_kept _ _ _ _ _ (main.reported zero) flushed;
+      statuses = main.statuses;
+      words_refused = main.words_refused;
+      scenario_refused = λ three. refusal_kept _ _ _ _ _ _ _ _ (main.scenario_refused three) flushed later;
+      limit_passed = λ four. limit_kept _ _ _ _ _ _ _ _ (main.limit_passed four) flushed later;
+      read_failed = main.read_failed;
+      write_failed = λ six. rose_kept _ _ _ (main.write_failed six) later;
+      report_cut = λ six. cut_kept _ _ _ _ _ _ (main.report_cut six) flushed;
+      schedule_refused = λ eight. bad_turn_kept _ _ _ _ _ _ _ _ (main.schedule_refused eight) flushed later;
+      run_has_no_schedule = main.run_has_no_schedule;
+      replay_complete = λ text c' fits left reads defined no_read no_write.
+          main.replay_complete text c' fits left reads defined no_read (λ rose. no_write (rose_kept _ _ _ rose later));
+      run_complete = λ text c' fits left reads no_read no_write.
+          main.run_complete text c' fits left reads no_read (λ rose. no_write (rose_kept _ _ _ rose later));
     }
 
 pub returns-in-Err : goal.returns-in-Err
 returns-in-Err g c =
-    let batch = c.snp_batch-status.ensures in
+    let main = c.snp_main-status.ensures in
     let flushed = c.in-Err.ensures.written in
     let later = c.in-Err.ensures.later in
-    let is : IsUnflushed c.snp_batch-status.result c.unflushed.result = record { done = c.unflushed.ensures.done; other = c.unflushed.ensures.other } in
-    let rose = rose_behind _ _ _ batch.later.1 c.in-Err.ensures.failed in
+    let is : IsUnflushed c.snp_main-status.result c.unflushed.result = record { done = c.unflushed.ensures.done; other = c.unflushed.ensures.other } in
+    let rose = rose_behind _ _ _ main.later.1 c.in-Err.ensures.failed in
     record {
       source_read = λ zero. absurd (never_done _ _ is zero);
-      scenario_read = λ zero. absurd (never_done _ _ is zero);
-      report_written = λ zero. absurd (never_done _ _ is zero);
-      items_in_order = λ zero. absurd (never_done _ _ is zero);
-      guest_memory_legal = λ zero. absurd (never_done _ _ is zero);
-      statuses = known_status _ _ is batch.statuses;
-      words_refused = (λ two. batch.words_refused.0 (other_status _ _ 2 is (λ e. absurd (omega (arith, e))) two), λ none. same_status _ _ 2 is (omega arith) (batch.words_refused.1 none));
-      scenario_refused = λ three. refusal_kept _ _ _ _ _ _ _ _ (batch.scenario_refused (other_status _ _ 3 is (λ e. absurd (omega (arith, e))) three)) flushed later;
-      limit_passed = λ four. limit_kept _ _ _ _ _ _ _ _ (batch.limit_passed (other_status _ _ 4 is (λ e. absurd (omega (arith, e))) four)) flushed later;
-      read_failed = λ five. batch.read_failed (other_status _ _ 5 is (λ e. absurd (omega (arith, e))) five);
+      reported = λ zero. absurd (never_done _ _ is zero);
+      statuses = known_status _ _ is main.statuses;
+      words_refused = (λ two. main.words_refused.0 (other_status _ _ 2 is (λ e. absurd (omega (arith, e))) two), λ none. same_status _ _ 2 is (omega arith) (main.words_refused.1 none));
+      scenario_refused = λ three. refusal_kept _ _ _ _ _ _ _ _ (main.scenario_refused (other_status _ _ 3 is (λ e. absurd (omega (arith, e))) three)) flushed later;
+      limit_passed = λ four. limit_kept _ _ _ _ _ _ _ _ (main.limit_passed (other_status _ _ 4 is (λ e. absurd (omega (arith, e))) four)) flushed later;
+      read_failed = λ five. main.read_failed (other_status _ _ 5 is (λ e. absurd (omega (arith, e))) five);
       write_failed = λ six. rose;
       report_cut = λ six. elim (cut_status _ _ is six) [
-        | inl zero ↦ report_cut _ _ _ _ _ (batch.source_read zero) (batch.scenario_read zero) (batch.report_written zero) flushed
-        | inr same ↦ cut_kept _ _ _ _ _ (batch.report_cut same) flushed
+        | inl zero ↦ report_cut _ _ _ _ _ _ (main.source_read zero) (main.reported zero) flushed
+        | inr same ↦ cut_kept _ _ _ _ _ _ (main.report_cut same) flushed
       ];
-      schedule_refused = λ eight. bad_turn_kept _ _ _ _ _ _ _ _ (batch.schedule_refused (other_status _ _ 8 is (λ e. absurd (omega (arith, e))) eight)) flushed later;
-      complete = λ text c' fits left reads defined no_read no_write. absurd (no_write rose);
+      schedule_refused = λ eight. bad_turn_kept _ _ _ _ _ _ _ _ (main.schedule_refused (other_status _ _ 8 is (λ e. absurd (omega (arith, e))) eight)) flushed later;
+      run_has_no_schedule = λ eight. main.run_has_no_schedule (other_status _ _ 8 is (λ e. absurd (omega (arith, e))) eight);
+      replay_complete = λ text c' fits left reads defined no_read no_write. absurd (no_write rose);
+      run_complete = λ text c' fits left reads no_read no_write. absurd (no_write rose);
     }

@@ -1,0 +1,65 @@
+-- What the program reports of a run, whether the scenario's order lines say its schedule or its threads make it as they go. This project's own.
+use Rattle.std.specs.Prelude.{◌≡◌, ℕ, ◌==◌, Bool, true, false, ◌&&◌, ◌||◌, List, [], length, slice_index_or, codes, bytes_eq, Option, Result, Ok, Err}
+use Rattle.snp_model.specs.declared.scenario.Scenario.{Scenario}
+use Rattle.snp_model.specs.CommandLine.{are_words}
+use Rattle.snp_model.specs.Ending.{report_of}
+use Rattle.snp_model.specs.Premises.{AreLegal}
+use Rattle.snp_model.specs.Journal.{actors_of}
+use Rattle.snp_model.specs.Outside.{Adds, AddsPrefix, Rose}
+use Rattle.snp_model.specs.Reading.{order_of}
+use Rattle.snp_model.specs.Report.{actors_in, runs_of}
+use Rattle.snp_model.specs.Run.{IsDefined, IsOrdered, run_of, state_after}
+use Rattle.snp_model.specs.State.{IsUnfinished}
+use Rattle.snp_top.specs.declared.fault.CommandFault.{CommandFault}
+use Rattle.snp_top.specs.declared.fault.CommandFault.TheVariants as faults
+use Rattle.snp_top.specs.Batch.{Outside, WritesLine, Wrote}
+use Rattle.snp_top.specs.Faults.{error_line}
+use Rattle.snp_top.specs.Replays.{HasReplayCause, ReadsText, SaysOne}
+
+-- whether the words are `run` alone
+abbrev pub is_run : List (List ℕ) → Bool
+is_run words = (length words == 1) && bytes_eq (slice_index_or words 0 []) (codes "run")
+
+-- whether they are those of any command
+abbrev pub are_commands : List (List ℕ) → Bool
+are_commands words = is_run words || are_words words
+
+-- every actor has passed its last item at the end of the schedule
+abbrev pub FinishesAll : Scenario → List ℕ → Type 0
+FinishesAll c schedule = (actor : ℕ) → IsUnfinished (state_after c schedule) actor → ⊥
+
+-- the schedule that is reported: where the actors run to their ends, one that does so, and else that of the order lines
+abbrev pub IsChosen : Bool → Scenario → List ℕ → Type 0
+IsChosen true c schedule = FinishesAll c schedule
+IsChosen false c schedule = schedule ≡ order_of c
+
+-- this is so of the report of one run of the scenario. In that run each actor's items come once and in order, each guest's
+-- private accesses are one legal history of a memory of its own, and the order lines of the report spell its schedule
+pub record IsReported (to_ends : Bool) (c : Scenario) (Writes : List ℕ → Type 0) : Type 0 where
+  pub schedule : List ℕ
+  pub chosen : IsChosen to_ends c schedule
+  pub defined : IsDefined c schedule
+  pub ordered : IsOrdered c schedule
+  pub legal : AreLegal c schedule
+  pub spelled : actors_in (runs_of (actors_of (run_of c schedule))) ≡ schedule
+  pub written : Writes (report_of c schedule)
+
+-- what came of running a valid scenario's actors to their ends and reporting it; want of memory is free
+abbrev pub RunsOut : Scenario → Option (List ℕ) → Option (List ℕ) → ℕ → ℕ → Result (Unit {0}) CommandFault → Type 0
+RunsOut c old now before after (Ok done) = IsReported true c (Adds old now)
+RunsOut c old now before after (Err faults.Write) = IsReported true c (AddsPrefix old now) × Rose before after
+RunsOut c old now before after (Err faults.Memory) = WritesLine old now before after (error_line faults.Memory)
+RunsOut c old now before after (Err fault) = ⊥
+
+-- no entry of a schedule is at fault
+abbrev pub IsNoTurn : CommandFault → Type 0
+IsNoTurn (faults.Schedule turn) = ⊥
+IsNoTurn fault = Unit {0}
+
+-- what the outcome of `run` tells, of the outside before and after
+abbrev pub ExplainsRun : Result (Unit {0}) CommandFault → Outside → Outside → Type 0
+ExplainsRun (Ok done) before now = ReadsText before.left now.left (SaysOne (λ c. IsReported true c (Adds before.written now.written)))
+ExplainsRun (Err faults.Write) before now =
+    Rose before.write_faults now.write_faults × ReadsText before.left now.left (SaysOne (λ c. IsReported true c (AddsPrefix before.written now.written)))
+ExplainsRun (Err fault) before now =
+    IsNoTurn fault × HasReplayCause before.left now.left before.read_faults now.read_faults fault × Wrote before now (error_line fault)

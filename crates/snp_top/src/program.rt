@@ -1,0 +1,132 @@
+//! The program's commands, those that need threads among them, from its words to its exit status.
+ghost use Rattle.std.specs.Prelude.{◌≡◌, ℕ, ◌+◌, ◌≤◌, ◌<◌, ◌≢◌, ◌⊎◌, ◌↔◌, true, false, List, Some, IfSome, length, map, codes, string_bytes};
+ghost use Rattle.snp_model.specs.declared.scenario.Scenario.{Scenario};
+ghost use Rattle.snp_model.specs.CommandLine.{are_words};
+ghost use Rattle.snp_model.specs.Limits.{most};
+ghost use Rattle.snp_model.specs.Opening.{opening};
+ghost use Rattle.snp_model.specs.Outside.{Adds, AddsPrefix, Rose};
+ghost use Rattle.snp_model.specs.Reading.{Passes, Reads, Refuses, order_of};
+ghost use Rattle.snp_model.specs.Run.{IsDefined};
+ghost use Rattle.snp_top.specs.Batch.{SaysBadTurn, SaysLimit, SaysRefusal, WritesLine};
+ghost use Rattle.snp_top.specs.Input.{TakesAtMost};
+ghost use Rattle.snp_top.specs.Replays.{IsRead, ReadsText, SaysOne};
+ghost use Rattle.snp_top.specs.Runs.{ExplainsRun, IsReported, are_commands, is_run};
+ghost use Rattle.snp_top.specs.Schedule.{IsFirstBad};
+
+use crate::batch::{exit_status, is_word, refuse, snp_batch};
+use crate::fault::CommandFault;
+use crate::fleet::Fleet;
+use crate::replay::read;
+use crate::run::run;
+use outside_port::{Gate, Sink, Source};
+use snp_model::{Quantity, Reason};
+use std::alloc::Global;
+use std::sync::Wait;
+use std::thread::Threads;
+
+// Whether the words are `run` alone.
+fn is_run(words: &Vec<String>) -> bool
+    ensures { result ≡ is_run (map string_bytes words.now.items) }
+{
+    words.len() == 1 && is_word(words[0].as_bytes(), b"run")
+}
+
+/// Carries out the command that the words name, as `snp_batch` does, and `run` besides: it reads a scenario, passes over
+/// its order lines, builds by the fleet what one worker for each actor steps, each step after the gate let it through, and
+/// reports the run that the fleet keeps when all are finished. A worker's thread may wait for another's. The statuses are
+/// those of `snp_batch`, but that `run` never gives 8.
+pub fn snp_main<S: Source, K: Sink, G: Gate + Sync, F: Fleet, R: Threads + Wait + Sync>(
+    rt: &R,
+    alloc: Global,
+    words: &Vec<String>,
+    source: &mut S,
+    sink: &mut K,
+    gate: &G,
+    fleet: &mut F,
+) -> u8
+    // The headline: the text was read to its end, and it says a scenario. The report of one run of it is written, and
+    // nothing else. The schedule of that run is that of the order lines, or, under `run`, one that finishes every actor.
+    ensures source_read { result ≡ 0 → IsRead (S.left source.old) (S.left source.new) }
+    ensures reported { result ≡ 0 → IfSome (S.left source.old)
+        (SaysOne (λ c. IsReported (is_run (map string_bytes words.now.items)) c (Adds (K.written sink.old) (K.written sink.new)))) }
+
+    // There are no other statuses than 0 and 2 to 8.
+    ensures statuses { (result ≤ 8) × (result ≢ 1) }
+
+    // The words are looked at first. Where they are no command, the source isn't touched.
+    ensures words_refused { (result ≡ 2) ↔ (are_commands (map string_bytes words.now.items) ≡ false) }
+    ensures words_line { result ≡ 2 → WritesLine (K.written sink.old) (K.written sink.new) (K.faults sink.old) (K.faults sink.new) (codes "error words\n") }
+    ensures source_untouched { result ≡ 2 → source.new ≡ source.old }
+
+    // Then the text is read, at most one byte more of it than a text may have. The source may fail before that.
+    ensures taken { TakesAtMost (most Quantity.Bytes + 1) (S.left source.old) (S.left source.new) }
+    ensures read_failed { result ≡ 5 → Rose (S.faults source.old) (S.faults source.new) }
+    ensures read_stopped { result ≡ 5 → TakesAtMost (most Quantity.Bytes) (S.left source.old) (S.left source.new) }
+    ensures read_line { result ≡ 5 → WritesLine (K.written sink.old) (K.written sink.new) (K.faults sink.old) (K.faults sink.new) (codes "error read\n") }
+
+    // A line of it may be the first thing that is wrong.
+    ensures scenario_refused { result ≡ 3 → SaysRefusal (S.left source.old) (S.left source.new) (K.written sink.old) (K.written sink.new) (K.faults sink.old) (K.faults sink.new) }
+    ensures scenario_refused_where { (text : List ℕ) (line : ℕ) (reason : Reason) → are_commands (map string_bytes words.now.items) ≡ true → S.left source.old ≡ Some text
+        → Refuses text line reason → (result ≡ 3) ⊎ ((result ≡ 5) ⊎ (result ≡ 7)) }
+
+    // Or a limit may be: the text's own length, or a quantity with a line.
+    ensures limit_passed { result ≡ 4 → SaysLimit (S.left source.old) (S.left source.new) (K.written sink.old) (K.written sink.new) (K.faults sink.old) (K.faults sink.new) }
+    ensures limit_passed_where { (text : List ℕ) (quantity : Quantity) (count : ℕ) → are_commands (map string_bytes words.now.items) ≡ true → S.left source.old ≡ Some text
+        → Passes text quantity count → (result ≡ 4) ⊎ ((result ≡ 5) ⊎ (result ≡ 7)) }
+
+    // Else the text says a scenario. Its schedule may name an actor that is missing or finished; `run` doesn't look at it.
+    ensures schedule_refused { result ≡ 8 → SaysBadTurn (S.left source.old) (S.left source.new) (K.written sink.old) (K.written sink.new) (K.faults sink.old) (K.faults sink.new) }
+    ensures run_has_no_schedule { result ≡ 8 → is_run (map string_bytes words.now.items) ≡ false }
+    ensures schedule_refused_where { (text : List ℕ) (c : Scenario) (entry actor : ℕ) → are_words (map string_bytes words.now.items) ≡ true → S.left source.old ≡ Some text
+        → Reads text c → IsFirstBad (opening c) (order_of c) entry actor → (result ≡ 8) ⊎ ((result ≡ 5) ⊎ (result ≡ 7)) }
+
+    // The sink may fail under the report.
+    ensures write_failed { result ≡ 6 → Rose (K.faults sink.old) (K.faults sink.new) }
+    ensures report_cut { result ≡ 6 → ReadsText (S.left source.old) (S.left source.new)
+        (SaysOne (λ c. IsReported (is_run (map string_bytes words.now.items)) c (AddsPrefix (K.written sink.old) (K.written sink.new)))) }
+
+    // Want of memory is free.
+    ensures memory_line { result ≡ 7 → WritesLine (K.written sink.old) (K.written sink.new) (K.faults sink.old) (K.faults sink.new) (codes "error memory\n") }
+
+    // The counts of faults never fall.
+    ensures later { (S.faults source.old ≤ S.faults source.new) × (K.faults sink.old ≤ K.faults sink.new) }
+
+    // Nothing else keeps the report from being written: neither that of a replay whose schedule makes a run,
+    ensures replay_complete { (text : List ℕ) (c : Scenario) → are_words (map string_bytes words.now.items) ≡ true → S.left source.old ≡ Some text
+        → Reads text c → IsDefined c (order_of c)
+        → (Rose (S.faults source.old) (S.faults source.new) → ⊥) → (Rose (K.faults sink.old) (K.faults sink.new) → ⊥)
+        → (result ≡ 0) ⊎ (result ≡ 7) }
+
+    // nor that of `run`, whatever the order lines are.
+    ensures run_complete { (text : List ℕ) (c : Scenario) → is_run (map string_bytes words.now.items) ≡ true → S.left source.old ≡ Some text
+        → Reads text c
+        → (Rose (S.faults source.old) (S.faults source.new) → ⊥) → (Rose (K.faults sink.old) (K.faults sink.new) → ⊥)
+        → (result ≡ 0) ⊎ (result ≡ 7) }
+{
+    if is_run(words) {
+        exit_status(carry_out_run(rt, alloc, source, sink, gate, fleet))
+    } else {
+        snp_batch(alloc, words, source, sink)
+    }
+}
+
+// Carries `run` out.
+fn carry_out_run<S: Source, K: Sink, G: Gate + Sync, F: Fleet, R: Threads + Wait + Sync>(
+    rt: &R,
+    alloc: Global,
+    source: &mut S,
+    sink: &mut K,
+    gate: &G,
+    fleet: &mut F,
+) -> Result<(), CommandFault>
+    ensures explained { ExplainsRun result
+        (record { left = S.left source.old; read_faults = S.faults source.old; written = K.written sink.old; write_faults = K.faults sink.old })
+        (record { left = S.left source.new; read_faults = S.faults source.new; written = K.written sink.new; write_faults = K.faults sink.new }) }
+    ensures taken { TakesAtMost (most Quantity.Bytes + 1) (S.left source.old) (S.left source.new) }
+    ensures later { (S.faults source.old ≤ S.faults source.new) × (K.faults sink.old ≤ K.faults sink.new) }
+{
+    match read(alloc, source) {
+        Ok(scenario) => run(rt, alloc, &scenario, sink, gate, fleet),
+        Err(fault) => Err(refuse(fault, sink)),
+    }
+}
