@@ -1,12 +1,14 @@
 -- What a flush leaves of what was written before it: all, since it adds nothing to what a writer has taken.
-use Rattle.std.proofs.Common.{◌≡◌, Bool, IfSome, ℕ, ◌<◌, ◌≤◌, ◌⊎◌, ◌≢◌, zero, suc, List, [], Option, Some, None, sym, ◌∙◌, subst, inl, inr, append-nil, arith}
+use Rattle.std.proofs.Common.{◌≡◌, Bool, IfSome, ℕ, ◌<◌, ◌≤◌, ◌⊎◌, ◌≢◌, zero, suc, List, [], length, Option, Some, None, sym, ◌∙◌, subst, inl, inr, append-nil, arith}
 use Rattle.snp_model.specs.declared.scenario.Scenario.{Scenario}
 use Rattle.snp_model.specs.Ending.{report_of}
 use Rattle.snp_model.specs.Outside.{Adds, AddsPrefix, Rose}
+use Rattle.snp_model.specs.Report.{report_text}
 use Rattle.snp_model.proofs.Adding.{adds_twice}
 use Rattle.snp_top.specs.Batch.{SaysBadTurn, SaysLimit, SaysRefusal, WritesLine}
+use Rattle.snp_top.specs.Fleets.{Kept}
 use Rattle.snp_top.specs.Replays.{IsRead, ReadsText, SaysOne}
-use Rattle.snp_top.specs.Runs.{IsReported}
+use Rattle.snp_top.specs.Runs.{IsReported, ReportsKept}
 
 adds_kept : (old mid now : Option (List ℕ)) (bytes : List ℕ) → Adds old mid bytes → Adds mid now [] → Adds old now bytes
 adds_kept old mid now bytes adds flushed = subst (Adds old now) (append-nil bytes) (adds_twice old mid now bytes [] adds flushed)
@@ -41,6 +43,15 @@ pub report_kept : (to_ends : Bool) (left old mid now : Option (List ℕ)) → If
 report_kept to_ends None old mid now reported flushed = tt
 report_kept to_ends (Some text) old mid now reported flushed =
     (reported.0, reported.1, reported_as to_ends reported.0 (Adds old mid) (Adds old now) (λ bytes adds. adds_kept old mid now bytes adds flushed) reported.2)
+
+run_kept : (c : Scenario) (kept : Option Kept) (old mid now : Option (List ℕ)) → ReportsKept c kept old mid → Adds mid now [] → ReportsKept c kept old now
+run_kept c None old mid now reports flushed = absurd reports
+run_kept c (Some kept) old mid now reports flushed = (reports.0, adds_kept old mid now (report_text c.version kept.list kept.guests) reports.1 flushed)
+
+pub fleet_kept : (left : Option (List ℕ)) (kept : Option Kept) (old mid now : Option (List ℕ)) → IfSome left (SaysOne (λ c. 0 < length c.actors → ReportsKept c kept old mid)) → Adds mid now []
+    → IfSome left (SaysOne (λ c. 0 < length c.actors → ReportsKept c kept old now))
+fleet_kept None kept old mid now reports flushed = tt
+fleet_kept (Some text) kept old mid now reports flushed = (reports.0, reports.1, λ some. run_kept reports.0 kept old mid now (reports.2 some) flushed)
 
 pub refusal_kept : (left taken old mid now : Option (List ℕ)) (before between after : ℕ) → SaysRefusal left taken old mid before between → Adds mid now [] → between ≤ after → SaysRefusal left taken old now before after
 refusal_kept left taken old mid now before between after refused flushed later = (refused.0, refused.1, refused.2, line_kept old mid now before between after _ refused.3 flushed later)

@@ -1,5 +1,5 @@
 //! A command over a writer that holds its output back.
-ghost use Rattle.std.specs.Prelude.{◌≡◌, ℕ, ◌≤◌, ◌≢◌, ◌⊎◌, ◌↔◌, true, false, List, Some, IfSome, map, string_bytes};
+ghost use Rattle.std.specs.Prelude.{◌≡◌, ℕ, ◌≤◌, ◌<◌, ◌≢◌, ◌⊎◌, ◌↔◌, true, false, List, Some, IfSome, length, map, string_bytes};
 ghost use Rattle.snp_model.specs.declared.scenario.Scenario.{Scenario};
 ghost use Rattle.snp_model.specs.CommandLine.{are_words};
 ghost use Rattle.snp_model.specs.Outside.{Adds, AddsPrefix, Rose};
@@ -7,7 +7,7 @@ ghost use Rattle.snp_model.specs.Reading.{Reads, order_of};
 ghost use Rattle.snp_model.specs.Run.{IsDefined};
 ghost use Rattle.snp_top.specs.Batch.{SaysBadTurn, SaysLimit, SaysRefusal};
 ghost use Rattle.snp_top.specs.Replays.{IsRead, ReadsText, SaysOne};
-ghost use Rattle.snp_top.specs.Runs.{IsReported, are_commands, is_run};
+ghost use Rattle.snp_top.specs.Runs.{IsReported, ReportsKept, are_commands, is_run};
 
 use outside_port::{Failed, Gate, Source, WriterSink};
 use snp_top::fleet::Fleet;
@@ -35,6 +35,8 @@ pub fn answer<S: Source, W: Write, G: Gate + Sync, F: Fleet, R: Threads + Wait +
     ensures source_read { result ≡ 0 → IsRead (S.left source.old) (S.left source.new) }
     ensures reported { result ≡ 0 → IfSome (S.left source.old)
         (SaysOne (λ c. IsReported (is_run (map string_bytes words.now.items)) c (Adds sink.old.written sink.new.written))) }
+    ensures fleet_keeps { result ≡ 0 → is_run (map string_bytes words.now.items) ≡ true → IfSome (S.left source.old)
+        (SaysOne (λ c. 0 < length c.actors → ReportsKept c (F.kept fleet.new) sink.old.written sink.new.written)) }
 
     // Every other status has its cause.
     ensures statuses { (result ≤ 8) × (result ≢ 1) }

@@ -1,5 +1,5 @@
 -- What the outcome of a command tells, clause by clause.
-use Rattle.std.proofs.Common.{◌≡◌, ℕ, ◌≤◌, ◌⊎◌, ◌↔◌, ◌≢◌, true, false, zero, suc, List, [], ◌∷◌, take, Option, None, Some, IfSome, Result, Ok, Err, sym, ◌∙◌, subst, arith, inl, inr}
+use Rattle.std.proofs.Common.{◌≡◌, ℕ, ◌≤◌, ◌⊎◌, ◌↔◌, ◌≢◌, true, false, zero, suc, List, [], ◌∷◌, take, Option, None, Some, IfSome, OnOk, Result, Ok, Err, sym, ◌∙◌, subst, arith, inl, inr}
 use Rattle.std.proofs.lemmas.Bool.{false≢true}
 use Rattle.std.specs.Prelude.{codes, slice_get}
 use Rattle.snp_model.specs.declared.reading.Quantity.{Quantity}
@@ -70,6 +70,11 @@ status_between (faults.Schedule turn) = (omega arith, omega arith)
 exit_between : (outcome : Result (Unit {0}) CommandFault) → (exit_status outcome ≤ 8) × (exit_status outcome ≢ 1)
 exit_between (Ok done) = (omega arith, λ e. absurd (omega (arith, e)))
 exit_between (Err fault) = let between = status_between fault in (between.1, λ e. absurd (omega (arith, between.0, e)))
+
+-- what holds of an outcome that is Ok holds under status 0
+pub ok_told : (outcome : Result (Unit {0}) CommandFault) (k : ℕ) (P : Type 0) → k ≡ exit_status outcome → OnOk outcome P → k ≡ 0 → P
+ok_told (Ok done) k P is holds meant = holds
+ok_told (Err fault) k P is holds meant = let between = status_between fault in absurd (omega (arith, meant, is, between.0))
 
 pub told_status : {k : ℕ} {words : List (List ℕ)} {before now : Outside} → Told k words before now → (k ≤ 8) × (k ≢ 1)
 told_status told = let P : ℕ → Type 0 = λ n. (n ≤ 8) × (n ≢ 1) in subst P (sym told.status) (exit_between told.outcome)

@@ -1,5 +1,5 @@
 -- What the program reports of a run, whether the scenario's order lines say its schedule or its threads make it as they go. This project's own.
-use Rattle.std.specs.Prelude.{◌≡◌, ℕ, ◌==◌, Bool, true, false, ◌&&◌, ◌||◌, List, [], length, slice_index_or, codes, bytes_eq, Option, Result, Ok, Err}
+use Rattle.std.specs.Prelude.{◌≡◌, ℕ, ◌==◌, Bool, true, false, ◌&&◌, ◌||◌, List, [], length, slice_index_or, codes, bytes_eq, Option, None, Some, Result, Ok, Err}
 use Rattle.snp_model.specs.declared.scenario.Scenario.{Scenario}
 use Rattle.snp_model.specs.CommandLine.{are_words}
 use Rattle.snp_model.specs.Ending.{report_of}
@@ -7,13 +7,14 @@ use Rattle.snp_model.specs.Premises.{AreLegal}
 use Rattle.snp_model.specs.Journal.{actors_of}
 use Rattle.snp_model.specs.Outside.{Adds, AddsPrefix, Rose}
 use Rattle.snp_model.specs.Reading.{order_of}
-use Rattle.snp_model.specs.Report.{actors_in, runs_of}
+use Rattle.snp_model.specs.Report.{actors_in, report_text, runs_of}
 use Rattle.snp_model.specs.Run.{IsDefined, IsOrdered, run_of, state_after}
 use Rattle.snp_model.specs.State.{IsUnfinished}
 use Rattle.snp_top.specs.declared.fault.CommandFault.{CommandFault}
 use Rattle.snp_top.specs.declared.fault.CommandFault.TheVariants as faults
 use Rattle.snp_top.specs.Batch.{Outside, WritesLine, Wrote}
 use Rattle.snp_top.specs.Faults.{error_line}
+use Rattle.snp_top.specs.Fleets.{IsWhole, Kept}
 use Rattle.snp_top.specs.Replays.{HasReplayCause, ReadsText, SaysOne}
 
 -- whether the words are `run` alone
@@ -44,6 +45,11 @@ pub record IsReported (to_ends : Bool) (c : Scenario) (Writes : List ℕ → Typ
   pub legal : AreLegal c schedule
   pub spelled : actors_in (runs_of (actors_of (run_of c schedule))) ≡ schedule
   pub written : Writes (report_of c schedule)
+
+-- a whole run of the scenario is kept, and what was written is its report
+abbrev pub ReportsKept : Scenario → Option Kept → Option (List ℕ) → Option (List ℕ) → Type 0
+ReportsKept c (Some kept) old now = IsWhole c kept × Adds old now (report_text c.version kept.list kept.guests)
+ReportsKept c None old now = ⊥
 
 -- what came of running a valid scenario's actors to their ends and reporting it; want of memory is free
 abbrev pub RunsOut : Scenario → Option (List ℕ) → Option (List ℕ) → ℕ → ℕ → Result (Unit {0}) CommandFault → Type 0

@@ -1,5 +1,5 @@
 //! The program's commands, those that need threads among them, from its words to its exit status.
-ghost use Rattle.std.specs.Prelude.{◌≡◌, ℕ, ◌+◌, ◌≤◌, ◌<◌, ◌≢◌, ◌⊎◌, ◌↔◌, true, false, List, Some, IfSome, length, map, codes, string_bytes};
+ghost use Rattle.std.specs.Prelude.{◌≡◌, ℕ, ◌+◌, ◌≤◌, ◌<◌, ◌≢◌, ◌⊎◌, ◌↔◌, true, false, List, Some, IfSome, OnOk, length, map, codes, string_bytes};
 ghost use Rattle.snp_model.specs.declared.scenario.Scenario.{Scenario};
 ghost use Rattle.snp_model.specs.CommandLine.{are_words};
 ghost use Rattle.snp_model.specs.Limits.{most};
@@ -10,7 +10,7 @@ ghost use Rattle.snp_model.specs.Run.{IsDefined};
 ghost use Rattle.snp_top.specs.Batch.{SaysBadTurn, SaysLimit, SaysRefusal, WritesLine};
 ghost use Rattle.snp_top.specs.Input.{TakesAtMost};
 ghost use Rattle.snp_top.specs.Replays.{IsRead, ReadsText, SaysOne};
-ghost use Rattle.snp_top.specs.Runs.{ExplainsRun, IsReported, are_commands, is_run};
+ghost use Rattle.snp_top.specs.Runs.{ExplainsRun, IsReported, ReportsKept, are_commands, is_run};
 ghost use Rattle.snp_top.specs.Schedule.{IsFirstBad};
 
 use crate::batch::{exit_status, is_word, refuse, snp_batch};
@@ -49,6 +49,10 @@ pub fn snp_main<S: Source, K: Sink, G: Gate + Sync, F: Fleet, R: Threads + Wait 
     ensures source_read { result ≡ 0 → IsRead (S.left source.old) (S.left source.new) }
     ensures reported { result ≡ 0 → IfSome (S.left source.old)
         (SaysOne (λ c. IsReported (is_run (map string_bytes words.now.items)) c (Adds (K.written sink.old) (K.written sink.new)))) }
+
+    // Under `run` what was written is the report of the run that the fleet keeps, unless the scenario has no actor.
+    ensures fleet_keeps { result ≡ 0 → is_run (map string_bytes words.now.items) ≡ true → IfSome (S.left source.old)
+        (SaysOne (λ c. 0 < length c.actors → ReportsKept c (F.kept fleet.new) (K.written sink.old) (K.written sink.new))) }
 
     // There are no other statuses than 0 and 2 to 8.
     ensures statuses { (result ≤ 8) × (result ≢ 1) }
@@ -122,6 +126,8 @@ fn carry_out_run<S: Source, K: Sink, G: Gate + Sync, F: Fleet, R: Threads + Wait
     ensures explained { ExplainsRun result
         (record { left = S.left source.old; read_faults = S.faults source.old; written = K.written sink.old; write_faults = K.faults sink.old })
         (record { left = S.left source.new; read_faults = S.faults source.new; written = K.written sink.new; write_faults = K.faults sink.new }) }
+    ensures fleet_keeps { OnOk result (IfSome (S.left source.old)
+        (SaysOne (λ c. 0 < length c.actors → ReportsKept c (F.kept fleet.new) (K.written sink.old) (K.written sink.new)))) }
     ensures taken { TakesAtMost (most Quantity.Bytes + 1) (S.left source.old) (S.left source.new) }
     ensures later { (S.faults source.old ≤ S.faults source.new) × (K.faults sink.old ≤ K.faults sink.new) }
 {

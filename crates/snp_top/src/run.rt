@@ -1,9 +1,11 @@
 //! A run by one worker for each actor, in whatever order their threads come to it, until every actor is finished.
 ghost use Rattle.std.specs.Prelude.{◌≡◌, ◌<◌, ◌≤◌, [], length, Some, OnOk, IfOk, vec_capacity};
 ghost use Rattle.machine_core.specs.Machine.{state_of};
+ghost use Rattle.snp_model.specs.Outside.{Adds};
 ghost use Rattle.snp_model.specs.Reading.{Valid};
+ghost use Rattle.snp_model.specs.Report.{report_text};
 ghost use Rattle.snp_top.specs.Fleets.{ArePasses, IsWhole, KeepsWhole};
-ghost use Rattle.snp_top.specs.Runs.{RunsOut};
+ghost use Rattle.snp_top.specs.Runs.{ReportsKept, RunsOut};
 
 use crate::batch::refuse;
 use crate::fault::CommandFault;
@@ -19,7 +21,8 @@ use std::alloc::{AllocError, Global};
 use std::sync::Wait;
 use std::thread::{self, Threads};
 
-/// Runs the actors of a scenario to their ends and writes the report, or an error line for want of memory.
+/// Runs the actors of a scenario to their ends and writes the report, or an error line for want of memory. Where the scenario
+/// has an actor, the report is that of the run which the fleet keeps.
 pub fn run<K: Sink, G: Gate + Sync, F: Fleet, R: Threads + Wait + Sync>(
     rt: &R,
     alloc: Global,
@@ -30,6 +33,7 @@ pub fn run<K: Sink, G: Gate + Sync, F: Fleet, R: Threads + Wait + Sync>(
 ) -> Result<(), CommandFault>
     requires { Valid scenario.now }
     ensures answer { RunsOut scenario.now (K.written sink.old) (K.written sink.new) (K.faults sink.old) (K.faults sink.new) result }
+    ensures fleet_keeps { OnOk result (0 < length scenario.now.actors → ReportsKept scenario.now (F.kept fleet.new) (K.written sink.old) (K.written sink.new)) }
     ensures later { K.faults sink.old ≤ K.faults sink.new }
 {
     if scenario.actors.is_empty() {
@@ -111,6 +115,7 @@ fn report_kept<K: Sink, F: Fleet>(
     requires valid { Valid scenario.now }
     requires whole { KeepsWhole (Some scenario.now) (F.kept fleet.now) }
     ensures answer { RunsOut scenario.now (K.written sink.old) (K.written sink.new) (K.faults sink.old) (K.faults sink.new) result }
+    ensures fleet_keeps { OnOk result (ReportsKept scenario.now (F.kept fleet.now) (K.written sink.old) (K.written sink.new)) }
     ensures later { K.faults sink.old ≤ K.faults sink.new }
 {
     match fleet.ended() {
@@ -128,6 +133,7 @@ fn report_ended<K: Sink>(
     requires valid { Valid scenario.now }
     requires whole { IsWhole scenario.now (record { guests = ended.now.guests.items; list = ended.now.journal.list }) }
     ensures answer { RunsOut scenario.now (K.written sink.old) (K.written sink.new) (K.faults sink.old) (K.faults sink.new) result }
+    ensures text { OnOk result (Adds (K.written sink.old) (K.written sink.new) (report_text scenario.now.version ended.now.journal.list ended.now.guests.items)) }
     ensures later { K.faults sink.old ≤ K.faults sink.new }
 {
     match write_report(scenario.version, &ended.journal, &ended.guests, sink) {

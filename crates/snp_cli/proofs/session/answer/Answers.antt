@@ -1,5 +1,5 @@
 use Rattle.std.proofs.Common.{arith, inl, inr}
-use Rattle.snp_cli.proofs.FlushLaws.{IsUnflushed, never_done, other_status, same_status, cut_status, known_status, rose_kept, rose_behind, report_kept, refusal_kept, limit_kept, bad_turn_kept, cut_kept, report_cut}
+use Rattle.snp_cli.proofs.FlushLaws.{IsUnflushed, never_done, other_status, same_status, cut_status, known_status, rose_kept, rose_behind, report_kept, fleet_kept, refusal_kept, limit_kept, bad_turn_kept, cut_kept, report_cut}
 use Rattle.snp_cli.proofs.session.answer.Goals as goal
 
 pub returns-in-Ok : goal.returns-in-Ok
@@ -10,6 +10,7 @@ returns-in-Ok g c =
     record {
       source_read = main.source_read;
       reported = λ zero. report_kept _ _ _ _ _ (main.reported zero) flushed;
+      fleet_keeps = λ zero asked. fleet_kept _ _ _ _ _ (main.fleet_keeps zero asked) flushed;
       statuses = main.statuses;
       words_refused = main.words_refused;
       scenario_refused = λ three. refusal_kept _ _ _ _ _ _ _ _ (main.scenario_refused three) flushed later;
@@ -35,6 +36,7 @@ returns-in-Err g c =
     record {
       source_read = λ zero. absurd (never_done _ _ is zero);
       reported = λ zero. absurd (never_done _ _ is zero);
+      fleet_keeps = λ zero asked. absurd (never_done _ _ is zero);
       statuses = known_status _ _ is main.statuses;
       words_refused = (λ two. main.words_refused.0 (other_status _ _ 2 is (λ e. absurd (omega (arith, e))) two), λ none. same_status _ _ 2 is (omega arith) (main.words_refused.1 none));
       scenario_refused = λ three. refusal_kept _ _ _ _ _ _ _ _ (main.scenario_refused (other_status _ _ 3 is (λ e. absurd (omega (arith, e))) three)) flushed later;

@@ -1,8 +1,16 @@
 use Rattle.std.proofs.Common.{List, ℕ, map, string_bytes, sym, ◌∙◌}
 use Rattle.snp_model.specs.CommandLine.{are_words}
 use Rattle.snp_top.specs.Runs.{is_run}
+use Rattle.snp_top.proofs.BatchLaws.{ok_told}
 use Rattle.snp_top.proofs.CommandLaws.{asked_by, batch_cut, batch_reported, cut_by, or_other, run_told}
 use Rattle.snp_top.proofs.program.snp_main.Goals as goal
+
+pub returns-then-is_run-clause-reported : goal.returns-then-is_run-clause-reported
+returns-then-is_run-clause-reported g c = λ zero.
+    asked_by _ _ _ (sym c.is_run.ensures ∙ c.if-is_run.true) ((run_told c.carry_out_run.result c.exit_status.result _ _ c.exit_status.ensures c.carry_out_run.ensures.explained).reported zero)
+
+pub returns-then-is_run-clause-fleet_keeps : goal.returns-then-is_run-clause-fleet_keeps
+returns-then-is_run-clause-fleet_keeps g c = λ zero asked. ok_told c.carry_out_run.result c.exit_status.result _ c.exit_status.ensures c.carry_out_run.ensures.fleet_keeps zero
 
 pub returns-then-is_run-clause-read_line : goal.returns-then-is_run-clause-read_line
 returns-then-is_run-clause-read_line g c = (run_told c.carry_out_run.result c.exit_status.result _ _ c.exit_status.ensures c.carry_out_run.ensures.explained).read_line
