@@ -1,4 +1,4 @@
-ghost use Rattle.std.specs.Prelude.{None};
+ghost use Rattle.std.specs.Prelude.{◌≡◌, None};
 
 use crate::board::Board;
 use outside_port::{Busy, Steps};
@@ -11,11 +11,25 @@ pub struct LockedBoard {
     board: Mutex<Board>,
 }
 
-/// The pass of an actor, for any board.
+/// The pass of an actor, for any board. It keeps whether the actor was finished when it was last stepped by it, so that this
+/// is asked without the lock.
 #[derive(Clone, Copy, Debug, Drop, PartialEq, Eq)]
 pub struct BoardPass {
     /// The actor, numbered from 1.
     pub actor: u32,
+    finished: bool,
+}
+
+impl BoardPass {
+    /// The pass of an actor, numbered from 1, that it hasn't stepped yet.
+    pub fn new(actor: u32) -> BoardPass
+        ensures { result.actor ≡ actor }
+    {
+        BoardPass {
+            actor,
+            finished: false,
+        }
+    }
 }
 
 impl LockedBoard {
@@ -50,11 +64,14 @@ impl Steps for LockedBoard {
         pass.actor
     }
 
-    fn finished<R: Wait>(&self, rt: &R, pass: &BoardPass) -> bool {
-        self.board.lock(rt).finished(pass.actor)
+    fn finished<R: Wait>(&self, _rt: &R, pass: &BoardPass) -> bool {
+        pass.finished
     }
 
     fn one<R: Wait>(&self, rt: &R, pass: &mut BoardPass) -> Result<Event, Busy> {
-        Ok(self.board.lock(rt).one(pass.actor))
+        let mut board = self.board.lock(rt);
+        let event = board.one(pass.actor);
+        pass.finished = board.finished(pass.actor);
+        Ok(event)
     }
 }

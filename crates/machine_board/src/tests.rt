@@ -80,7 +80,7 @@ fn a_board_steps_its_actor_until_it_is_finished(rt: HostRuntime) -> Result<(), F
 #[test]
 fn a_locked_board_is_stepped_and_finished(rt: HostRuntime) -> Result<(), Fail> {
     let locked = LockedBoard::over(smallest(rt.alloc())?);
-    let mut pass = BoardPass { actor: 1 };
+    let mut pass = BoardPass::new(1);
     let first = locked.one(&rt, &mut pass);
     let finished = locked.finished(&rt, &pass);
     let mut board = locked.end();

@@ -113,7 +113,7 @@ fn make_passes(alloc: Global, count: usize) -> Result<Vec<BoardPass>, AllocError
 {
     let mut passes = Vec::with_capacity(alloc, count)?;
     'passes: for k in 0..count as u32 {
-        passes.push_reserved(BoardPass { actor: k + 1 });
+        passes.push_reserved(BoardPass::new(k + 1));
     }
     Ok(passes)
 }
