@@ -20,6 +20,10 @@ const OPENING: &str =
 const LARGE_OPENING: &str =
     "snp 1\nregions 2\nguest 1 opened asid 1 iv 0 key 0000000000000000000000000000000000000000000000000000000000000000\npage 512 of 1 at 0x400 2m valid 0 0 0\nword 512 0 3\nword 1023 511 6\nend\n";
 
+// Two guests. Guest 1 opens with page 0, which is frame 8, and guest 2 with no page: its page 1, frame 9, isn't validated yet.
+const TWO_GUESTS: &str =
+    "snp 1\nregions 1\nguest 1 opened asid 1 iv 0 key 0000000000000000000000000000000000000000000000000000000000000000\nguest 2 opened asid 2 iv 0 key 0000000000000000000000000000000000000000000000000000000000000000\npage 8 of 1 at 0 4k valid 0 0 0\npage 9 of 2 at 1 4k invalid 0 0 0\nend\n";
+
 // What an event is answered.
 #[derive(Clone, Copy, Debug, PartialEq, Eq)]
 enum Answer {
@@ -247,6 +251,46 @@ fn decoy(rt: HostRuntime) -> Result<(), Fail> {
         assert!(rt; is_in_range(&event.deed));
         assert_eq!(rt; told(memory.apply(&event, &item)), MADE, "{event:?}");
         assert_eq!(rt; memory.held(0), held, "{event:?}");
+    }
+    Ok(())
+}
+
+// The run of tests/cases/guest_that_validates_what_it_holds. Guest 1 validates a page that it holds, whose frame is another one by
+// now; its memory forgets the page's words, and the old frame's word isn't legal once the guest has stored to the new one.
+// Guest 2 doesn't validate what it holds, and each of its accesses is legal.
+#[test]
+fn validation_of_a_held_page(rt: HostRuntime) -> Result<(), Fail> {
+    let scenario = read_scenario(rt.alloc(), TWO_GUESTS.as_bytes())?;
+    let mut memory = GuestMemory::build(rt.alloc(), &scenario, 1)?;
+    let cases = [
+        (private(0, 0, 8, STORED), store(1), MADE),
+        (private(0, 0, 8, load(1)), access(LOAD), MADE),
+        (commit(0, Small, false), pvalidate(Small, true), MADE),
+        (private(0, 0, 10, load(0xbad)), access(LOAD), MADE),
+        (private(0, 0, 10, STORED), store(2), MADE),
+        (private(0, 0, 8, load(1)), access(LOAD), other(2, 1)),
+    ];
+    for (event, item, want) in cases {
+        assert!(rt; is_in_range(&event.deed));
+        assert_eq!(rt; told(memory.apply(&event, &item)), want, "{event:?}");
+    }
+    let mut memory = GuestMemory::build(rt.alloc(), &scenario, 2)?;
+    let cases = [
+        (commit(1, Small, false), pvalidate(Small, true)),
+        (private(1, 0, 9, STORED), store(3)),
+        (private(1, 0, 9, load(3)), access(LOAD)),
+        (private(0, 0, 8, NPF), access(LOAD)),
+        (
+            event(Deed::Lock { frame: 8 }, Some(NPF)),
+            pvalidate(Small, true),
+        ),
+        (private(1, 0, 10, NPF), access(LOAD)),
+        (private(1, 0, 9, swap(3)), access(Op::Swap(4))),
+        (private(1, 0, 9, load(4)), access(LOAD)),
+    ];
+    for (event, item) in cases {
+        assert!(rt; is_in_range(&event.deed));
+        assert_eq!(rt; told(memory.apply(&event, &item)), MADE, "{event:?}");
     }
     Ok(())
 }

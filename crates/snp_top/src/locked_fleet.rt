@@ -33,7 +33,9 @@ enum Stage {
 
 impl LockedFleet {
     /// A fleet that has built nothing.
-    pub fn new() -> LockedFleet {
+    pub fn new() -> LockedFleet
+        ensures { kept_of result.stage ≡ None }
+    {
         LockedFleet { stage: Stage::New }
     }
 }

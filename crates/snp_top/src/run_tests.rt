@@ -12,7 +12,8 @@ use std::test::Fail;
 use std::thread::{self, Threads};
 use std::time::Duration;
 
-// Four guest processors, which load a word of a page twice, and a hypervisor that maps the page to another frame.
+// Four guest processors, which load a word of a page twice, and a hypervisor that gives the guest another frame and maps the
+// page to it.
 const TEXT: &str = "snp 1
 regions 1
 guest 1 opened asid 1 iv 0 key 0000000000000000000000000000000000000000000000000000000000000000
@@ -34,8 +35,8 @@ actor 4 cpu 1 vmpl 0 npt 1 flat
 load 0x10
 load 0x10
 actor 5 host
+rmpupdate 9 4k 1 1 0 0
 store 0x4000 0x9007
-store 0x4008 0x9007
 ";
 
 // How many milliseconds a wait may take.
