@@ -38,6 +38,10 @@ CODES = [
     (['pf', '0x3'], 'present, write\n'),
     (['rc', '4'], 'FAIL_OVERLAP'),
     (['fw', '0x1a'], 'INVALID_PAGE_STATE'),
+    (['fw', '0x2'], 'decided by: the lock of a context, row 4 "the guest\'s state or its binding isn\'t as the command asks"'),
+    (['fw', '0x16'], '    the lock of a context, row 7 "`launch_update`: the page type isn\'t 1, 3 or 4"'),
+    (['fw 0x100 by 3'], '    the lock of a page, row 2 "the frame\'s page is locked"'),
+    (['offline'], 'offline: the guest isn\'t running'),
     (['rc', '3', 'fw', '0x100'], 'PAGE_IN_USE'),
     (['rc', '4'], 'decided by: RMPUPDATE, row 3 "4 KB, and F is in a 2 MB page; 2 MB, the range is no 2 MB page'),
     (['rc', '2'], '    PSMASH, row 4 "F is immutable"'),
@@ -72,6 +76,20 @@ EXPLAINED = [
     ('exchanges_of_an_unvalidated_page', ['row 5 "not validated"']),
     ('page_taken_under_a_walk', ['frame 8 is nobody\'s, and the access is of guest 1; event 6, `rmpupdate 8 4k 0 0 0 0` of actor 2, changed']),
     ('large_page_split_under_a_guest', ['a page of 4 KB, and the nested leaf is of 2 MB; event 6, `psmash 512` of actor 2, changed the entry']),
+    ('page_moved_to_another_guest', ['the lock of a page, row 5 "the command asks for a page of the guest, and the page\'s ASID is another"',
+                                     'frame 9 is page 0 of guest 2, not validated, immutable, and the command is for guest 1']),
+    ('update_of_a_page_that_firmware_has', ['actor 2 holds the lock of frame 8, which event 2 took for `page_reclaim 8`',
+                                            'the lock of a page, row 2 "the frame\'s page is locked"', 'retry 1 of 1',
+                                            'frame 8 is in the state Hypervisor, which `page_reclaim` doesn\'t take there: it takes Firmware']),
+    ('contexts_of_launch_commands', ['row 1 "the guest isn\'t declared"', 'because: guest 8 isn\'t declared',
+                                     'actor 2 holds the lock of the context of guest 1, which event', 'row 3 "the context is locked"',
+                                     'guest 1 is init, and not bound to its ASID; `launch_finish` asks for one that is launching and bound',
+                                     'row 5 "`activate`: the ASID is that of another declared guest"', 'the ASID 3 is that of guest 3',
+                                     'the ASID 1023 is asked, and guest 1 has 1', 'row 7 "`launch_update`: the page type isn\'t 1, 3 or 4"']),
+    ('contexts_of_page_move', ['row 2 "two of the command\'s frames are equal, as they are given"', 'because: frame 512 stands twice']),
+    ('pages_of_page_move', ['row 1 "the frame isn\'t in memory"', 'frame 1536 is outside memory, which has 1536 frames',
+                            'row 3 "the page is of 2 MB, and the command isn\'t `page_reclaim`"',
+                            'frame 10 is in the state Guest-Valid, which `page_move` doesn\'t take there: it takes Pre-Swap']),
     ('race_for_one_entry', ['RMPUPDATE, row 2 "a frame of the range is locked"',
                             'actor 1 holds it; the item is attempted again, retry 1 of 1\n',
                             'actor 1 holds the lock of frame 9, which event 0 took for `rmpupdate 9 4k 1 1 3 0`',
@@ -107,6 +125,25 @@ EXPLAINED_EVENTS = [
     ('region_assigned_and_freed', 1, ['frames 512 to 1023 become the page of 2 MB at page 0x400 of guest 1, not validated']),
     ('region_assigned_and_freed', 5, ['frames 512 to 1023 become free; the words become zero']),
     ('updates_and_their_refusals', 12, ['frame 9 becomes page 9 of guest 1, not validated, immutable']),
+    ('launch_of_three_pages', 10, ['frame 20 becomes the context page of guest 1, which is now in the state init']),
+    ('launch_of_three_pages', 12, ['the launch of guest 1 begins; the locks are released']),
+    ('launch_of_three_pages', 13, ['takes the lock of the context of guest 1; guest 1 is launching, and not bound to its ASID']),
+    ('launch_of_three_pages', 14, ['guest 1 is bound to its ASID 1']),
+    ('launch_of_three_pages', 16, ['locks the page of frame 8; frame 8 is page 0 of guest 1, not validated, immutable (Pre-Guest)']),
+    ('launch_of_three_pages', 17, ['launched as page 0 of guest 1, of the type NORMAL: its words are measured', 'permissions 15, 1, 0, 0']),
+    ('launch_of_three_pages', 20, ['of the type ZERO: its words become zero']),
+    ('launch_of_three_pages', 23, ['of the type UNMEASURED: the digest tells its place and permissions alone', 'permissions 15, 3, 1, 0']),
+    ('launch_of_three_pages', 25, ['guest 1 runs from here on']),
+    ('guest_that_starts_with_what_was_launched', 5, ['because: guest 1 is absent', 'goes to: nobody: the guest has no processor that runs']),
+    ('guest_that_starts_with_what_was_launched', 17, ['because: guest 1 is launching']),
+    ('guest_that_starts_with_what_was_launched', 30, ['because: the word is that of the opening']),
+    ('guest_that_starts_with_what_was_launched', 36, ['`launch_update 1 9 3 0 0 0 0` of actor 3, launched the frame as a ZERO page, and its words']),
+    ('page_moved_under_a_running_guest', 13, ['frame 9 becomes page 0 of guest 1, with the words and the entry of frame 8, which becomes an empty']),
+    ('page_moved_under_a_running_guest', 15, ['frame 9 isn\'t immutable any more, and is Guest-Valid']),
+    ('page_moved_under_a_running_guest', 22, ['event 13, `page_move 1 8 9` of actor 3, moved the words here from frame 8']),
+    ('page_moved_under_a_running_guest', 31, ['and is Guest-Invalid: its guest has to accept it']),
+    ('facts_of_reclaimed_pages', 86, ['a metadata page with zero words']),
+    ('reclaim_of_a_large_page', 12, ['frame 515, and the whole page of 2 MB that it stands in, isn\'t immutable any more']),
     ('updates_and_their_refusals', 18, ['frames 512 to 1023 become immutable; all else stays, the words too']),
     ('words_of_updated_frames', 9, ['frame 20 becomes the firmware\'s (Reclaim); the words stay']),
 ]
@@ -125,6 +162,16 @@ MISFITS = [
     ('page_taken_under_a_walk', 'npf 0x580000005', 'load 0x7', 'this should be `npf 0x580000005`'),
     ('large_page_split_and_freed', 'commit 512 0x400 2m', 'commit 512 0x0 2m', 'this should be `commit 512 0x400 2m rc 0`'),
     ('large_page_split_and_freed', 'lock 512 rc 4', 'lock 512 rc 2', 'this should be `rc 4`'),
+    ('page_moved_to_another_guest', 'lock 9 fw 0x1c', 'lock 9 fw 0x1a', 'this should be `fw 0x1c`'),
+    ('page_moved_to_another_guest', 'lock 9 fw 0x1c', 'lock 9', 'this should be `fw 0x1c`'),
+    ('page_moved_to_another_guest', '7 2 0.0 lock 8', '7 2 0.0 lock 9', 'this should be `lock 8`'),
+    ('page_moved_to_another_guest', '6 2 0.0 lockg 1', '6 2 0.0 lockg 2', 'this should be `lockg 1`'),
+    ('page_moved_to_another_guest', '6 2 0.0 lockg 1', '6 2 0.0 lock 8', 'this should be `lockg 1`'),
+    ('page_moved_under_a_running_guest', 'commit 9 0x0 4k fw 0x0', 'commit 8 0x0 4k fw 0x0', 'this should be `commit 9 0x0 4k fw 0x0`'),
+    ('page_moved_under_a_running_guest', '12 3 0.0 lock 9', '12 3 0.0 commit 9 0x0 4k fw 0x0', 'this should be `lock 9`'),
+    ('launch_of_three_pages', '25 2 6.0 commitg 1 fw 0x0', '25 2 6.0 lock 8', 'this should be the commit'),
+    ('launch_of_three_pages', '24 2 6.0 lockg 1', '24 2 6.0 lockg 1 fw 0x2', 'this should be let through'),
+    ('guest_that_starts_with_what_was_launched', '0x1:0 9 p load 0x0', '0x1:0 9 p load 0x9', 'this word should be 0x0'),
 ]
 
 # Commands that must be refused: arguments, input, and what must be said.
@@ -186,6 +233,7 @@ REFUSED = [
     (['write', '-'], BASE + 'page 512..1023 of 1 at 0x200 2m\n', 'standard input:12: a page of 2 MB is told by the first of its frames'),
     (['write', '-'], BASE + 'map 1 root 1: 0x201 -> 512 2m\n', 'standard input:12: a map of 2 MB has the first page and the first frame'),
     (['write', '-'], BASE + HOST + 'rmpupdate 9 free immutable\n', 'standard input:14: this should be `rmpupdate F free`'),
+    (['write', '-'], BASE + 'actor 2 fw\nlaunch_update 1 8 1\n', 'standard input:13: this should be `launch_update GUEST FRAMES`'),
     (['write', '-'], BASE + HOST + 'rmpupdate 9 of 1\n', 'standard input:14: this should be `rmpupdate F free`'),
     (['write', '-'], BASE + HOST + 'rmpupdate 9 of 2 at 3\n', 'standard input:14: guest 2 isn\'t declared'),
     (['write', '-'], BASE + 'order 1?\n', 'standard input:12: `1?` is no part of an order'),
@@ -294,10 +342,49 @@ store 0x3008 0x200087
 end
 ''' % KEY
 
+SHORT_LAUNCH = '''guest 1 new asid 3
+frame context
+actor 1 host
+rmpupdate context firmware retry 2
+rmpupdate 8 of 1 at 0 immutable
+rmpupdate 9 of 1 at 1 immutable
+actor 2 fw
+gctx_create 1 context
+launch_start 1
+launch_update 1 8..9 retry 1
+launch_update 1 8 3 0 1 0 0
+page_move 1 8 context
+'''
+PLAIN_LAUNCH = '''snp 1
+regions 1
+# frame context
+# guest 1 new asid 3
+guest 1 new asid 3 iv 0 key %s
+actor 1 host
+# rmpupdate context firmware retry 2
+rmpupdate 10 4k 1 0 0 1 retry 2
+# rmpupdate 8 of 1 at 0 immutable
+rmpupdate 8 4k 1 3 0 1
+# rmpupdate 9 of 1 at 1 immutable
+rmpupdate 9 4k 1 3 1 1
+actor 2 fw
+# gctx_create 1 context
+gctx_create 1 10
+launch_start 1
+# launch_update 1 8..9 retry 1
+launch_update 1 8 1 0 0 0 0 retry 1
+launch_update 1 9 1 0 0 0 0 retry 1
+launch_update 1 8 3 0 1 0 0
+# page_move 1 8 context
+page_move 1 8 10
+end
+''' % KEY
+
 # Two events, each as its actor's role, its item and its deed, and whether they commute.
 FREE_8, FREE_600 = ('host', 'rmpupdate 8 4k 0 0 0 0'), ('host', 'rmpupdate 600 4k 0 0 0 0')
 FREE_512, SMASH = ('host', 'rmpupdate 512 2m 0 0 0 0'), ('host', 'psmash 512')
 GUEST = 'cpu 1 vmpl 0 npt 1 flat'
+RECLAIM_8, RECLAIM_600, MOVE = ('fw', 'page_reclaim 8'), ('fw', 'page_reclaim 600'), ('fw', 'page_move 1 8 9')
 COMMUTING = [
     (FREE_8 + ('lock 8',), ('host', 'load 0x8000', 'host 8:0 opaque'), True),  # accesses ignore locks
     (FREE_8 + ('commit 8 0x0 4k rc 0',), ('host', 'load 0x8000', 'host 8:0 opaque'), False),
@@ -319,6 +406,23 @@ COMMUTING = [
     (FREE_8 + ('lock 8',), (GUEST, 'load 0x10', 'npt 8:0 0x0 npf 0x500000004'), True),
     (FREE_8 + ('commit 8 0x0 4k rc 0',), (GUEST, 'load 0x10', 'gpt 0x0:0 8 - vc 0x404'), False),
     (FREE_8 + ('commit 8 0x0 4k rc 0',), (GUEST, 'load 0x10', 'begin'), True),
+    (RECLAIM_8 + ('lock 8',), FREE_8 + ('lock 8 rc 3 by 1',), False),
+    (RECLAIM_8 + ('lock 8',), ('host', 'load 0x8000', 'host 8:0 opaque'), True),
+    (RECLAIM_8 + ('lock 8',), FREE_600 + ('lock 600',), True),
+    (RECLAIM_8 + ('lock 8 fw 0x1a',), RECLAIM_8 + ('lock 8 fw 0x1a',), True),
+    (RECLAIM_600 + ('lock 600',), SMASH + ('lock 512 rc 3 by 1',), False),  # a page of 2 MB as a whole
+    (RECLAIM_8 + ('commit 8 0x0 4k fw 0x0',), (GUEST, 'load 0x10', 'data 0x0:2 8 p npf 0x580000005'), False),
+    (MOVE + ('lockg 1',), MOVE + ('lockg 1 fw 0x100 by 1',), False),
+    (MOVE + ('lockg 1',), ('fw', 'page_move 2 10 11', 'lockg 2 fw 0x16'), True),
+    (MOVE + ('lockg 1',), FREE_8 + ('lock 8',), True),
+    (MOVE + ('lock 8',), FREE_8 + ('lock 8 rc 3 by 1',), False),
+    (MOVE + ('lock 9 fw 0x1a',), FREE_8 + ('lock 8 rc 3 by 1',), False),  # the refusal releases the source
+    (MOVE + ('lock 9 fw 0x1a',), MOVE + ('lockg 1',), False),
+    (MOVE + ('commit 9 0x0 4k fw 0x0',), ('host', 'load 0x9000', 'host 9:0 opaque'), False),
+    (MOVE + ('commit 9 0x0 4k fw 0x0',), ('host', 'load 0xa000', 'host 10:0 load 0x0'), True),
+    (('fw', 'launch_finish 1', 'commitg 1 fw 0x0'), FREE_8 + ('commit 8 0x0 4k rc 0',), True),
+    (('fw', 'launch_finish 1', 'commitg 1 fw 0x0'), MOVE + ('lockg 1 fw 0x2',), False),
+    (('fw', 'md_init 9999', 'lock 9999 fw 0x9'), FREE_8 + ('commit 8 0x0 4k rc 0',), True),
 ]
 
 # What the examples' items can end with in all interleavings.
@@ -341,6 +445,14 @@ REDUCED = [
     'actor 1 cpu 1 vmpl 0 npt 1 flat\nstore 0x10 1\nactor 2 host\nrmpupdate 4 4k 1 1 9 0\nload 32784\n',
     'actor 1 host\nrmpupdate 9 4k 1 1 3 0\nload 36864\nactor 2 host\nstore 36864 1\nrmpupdate 9 4k 1 1 4 1 retry 2\n',
     'actor 1 host\nrmpupdate 8 4k 0 0 0 0\nskip 1 if bad\nrmpupdate 0 2m 1 1 512 0\nactor 2 host\nrmpupdate 7 4k 1 1 7 0 retry 1\n',
+]
+# The same with firmware, and with a second guest that is to be launched.
+REDUCED_FIRMWARE = [
+    'actor 1 fw\npage_reclaim 8 retry 1\nactor 2 host\nrmpupdate 8 4k 1 1 0 1\nrmpupdate 8 4k 0 0 0 0\n',
+    'actor 1 fw\npage_move 1 8 9 retry 1\nactor 2 host\nrmpupdate 8 4k 1 1 0 1\nrmpupdate 9 4k 1 1 5 1\n',
+    'actor 1 fw\npage_move 1 8 9\nmd_init 9\nactor 2 fw\npage_move 1 9 8 retry 1\nactor 3 host\nrmpupdate 9 4k 1 0 0 1\n',
+    'actor 1 host\nrmpupdate 20 4k 1 0 0 1\nactor 2 fw\ngctx_create 2 20\nlaunch_start 2\nactor 3 cpu 2 vmpl 0 npt 1 flat\nload 0x10\n',
+    'actor 1 host\nrmpupdate 8 4k 1 1 0 1\nactor 2 fw\npage_reclaim 8\nactor 3 cpu 1 vmpl 0 npt 4 flat\nload 0x10\n',
 ]
 # The same of a page of 2 MB at frame 512.
 REDUCED_LARGE = [

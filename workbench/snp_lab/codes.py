@@ -9,6 +9,7 @@ from .texts import Complaint, number_of
 HYPERVISOR = 'the hypervisor: the processor leaves the guest'
 GUEST = 'the guest itself'
 OWN_FAULT = 'the hypervisor itself, from its own store'
+NOBODY = 'nobody: the guest has no processor that runs'
 
 
 @dataclass(frozen=True)
@@ -62,8 +63,19 @@ BEGIN = {key: Row('PVALIDATE and RMPADJUST', 'the begin of PVALIDATE or RMPADJUS
     'vmpl': 'the VMPL isn\'t 0', 'align': 'the address is no multiple of 4 KB, or of 2 MB where 2 MB is asked',
     'mask': 'the target VMPL is above 3, or the mask above 15', 'target': 'the target isn\'t greater than the VMPL'}.items()}
 
+CONTEXT = rows('Commands of the firmware', 'the lock of a context', 'the guest isn\'t declared',
+               'two of the command\'s frames are equal, as they are given', 'the context is locked',
+               'the guest\'s state or its binding isn\'t as the command asks', '`activate`: the ASID is that of another declared guest',
+               '`activate`: the ASID isn\'t that of the guest', '`launch_update`: the page type isn\'t 1, 3 or 4')
+PAGE = rows('Commands of the firmware', 'the lock of a page', 'the frame isn\'t in memory', 'the frame\'s page is locked',
+            'the page is of 2 MB, and the command isn\'t `page_reclaim`', 'the page\'s state isn\'t one that the command asks',
+            'the command asks for a page of the guest, and the page\'s ASID is another')
+# The rows of the commands that scenarios have, by the status that they give.
+FIRMWARE_ROWS = {0x02: [CONTEXT[3]], 0x09: [PAGE[0]], 0x0C: [CONTEXT[4]], 0x16: [CONTEXT[0], CONTEXT[1], CONTEXT[5], CONTEXT[6]],
+                 0x19: [PAGE[2]], 0x1A: [PAGE[3]], 0x1C: [PAGE[4]], 0x100: [CONTEXT[2], PAGE[1]]}
+
 CITED = ([NESTED_NOT_PRESENT, NESTED_USER, NESTED_WRITE, GUEST_NOT_PRESENT, GUEST_WRITE, CANONICAL, OFFLINE] + PRIVATE + SHARED
-         + HOST + BAD_UPDATE + UPDATE + SMASH + VALIDATE + list(BEGIN.values()))
+         + HOST + BAD_UPDATE + UPDATE + SMASH + VALIDATE + list(BEGIN.values()) + CONTEXT + PAGE)
 
 # The rows of RMPUPDATE and PSMASH, and of the instructions of guests, by the status that they give.
 STATUS_ROWS = {1: BAD_UPDATE + [SMASH[0], SMASH[2], BEGIN['align'], BEGIN['mask'], VALIDATE[0]],
@@ -122,7 +134,7 @@ FIRMWARE_STATUSES: Dict[int, Tuple[str, str]] = {
 EXIT_STATUSES: Dict[int, str] = {
     0: 'the whole report was written',
     1: 'the runtime doesn\'t give the arguments, or has no room for the output\'s buffer',
-    2: 'the words after the program\'s name aren\'t just `replay`',
+    2: 'the words after the program\'s name are none of `replay`, `run` and `measure`',
     3: 'a line of the text is refused',
     4: 'the text passes a limit',
     5: 'reading failed',
@@ -296,7 +308,7 @@ def coded(kind: str, code: int) -> List[str]:
     if kind == 'rc':
         return ['rc %d: %s' % (code, status_words(code))] + decided([str(row) for row in STATUS_ROWS.get(code, [])])
     if kind == 'fw':
-        return ['fw 0x%x: %s' % (code, firmware_words(code))]
+        return ['fw 0x%x: %s' % (code, firmware_words(code))] + decided([str(row) for row in FIRMWARE_ROWS.get(code, [])])
     if kind == 'status':
         return ['exit status %d: %s' % (code, EXIT_STATUSES.get(code, 'none that the program ends with'))]
     raise Complaint('`%s` is no kind of code: npf, pf, vc, rc, fw and status are' % kind)

@@ -174,6 +174,8 @@ WRITE = """Makes a plain scenario of a short one, which stands in the comments o
                                           leads there; large(FRAME): one of 2 MB; addr(FRAME,INDEX): a word's address;
                                           private(PAGE), shared(PAGE): entries of a guest's own tables
     rmpupdate decoy of 1 at 0x3           the hypervisor gives the frame to guest 1; `2m`, `immutable` and `retry N` may follow
+    rmpupdate context firmware            the frame becomes the firmware's, as one for a guest's context
+    launch_update 1 first..second         each frame is launched as a NORMAL page; or with the type, flag and permissions behind it
     rmpupdate big free 2m                 it takes the page of 2 MB back; without `2m`, the frame
     psmash big                            as in plain scenarios
     order 1! 1@data 2*3! 1!!              one item of actor 1; up to its next access, `2@commit` to a commit; three items of

@@ -6,7 +6,7 @@ determine is None.
 from __future__ import annotations
 
 from dataclasses import dataclass, field, replace
-from typing import Any, Dict, List, Optional, Tuple
+from typing import Any, Callable, Dict, List, Optional, Tuple
 
 from .entries import FREE, LARGE, RECLAIM, Entries, Facts, Marks, frames_from, meet
 from .report import Event
@@ -48,6 +48,7 @@ class Watch:
     scenario: Scenario
     rmp: Entries = field(default_factory=Entries)
     locks: List[Lock] = field(default_factory=list)
+    contexts: Dict[int, Lock] = field(default_factory=dict)
     states: Dict[int, str] = field(default_factory=dict)
     bound: Dict[int, bool] = field(default_factory=dict)
     attempts: Dict[int, Attempt] = field(default_factory=dict)
@@ -56,6 +57,7 @@ class Watch:
     commits: Dict[int, Event] = field(default_factory=dict)
     last_change: Marks = field(default_factory=Marks)
     last_refill: Marks = field(default_factory=Marks)
+    refills: Dict[Tuple[int, int], str] = field(default_factory=dict)
 
     def __post_init__(self) -> None:
         for guest in self.scenario.guests.values():
@@ -95,6 +97,10 @@ class Watch:
         """Who holds a lock, and since when."""
         return 'actor %d holds the lock of frame %d, which event %d took for `%s`' % (
             lock.actor, frame, lock.event.number, self.item_text(lock.event))
+
+    def context_holder_words(self, guest: int, lock: Lock) -> str:
+        return 'actor %d holds the lock of the context of guest %d, which event %d took for `%s`' % (
+            lock.actor, guest, lock.event.number, self.item_text(lock.event))
 
     def change_words(self, frame: int) -> str:
         """Who changed the entry of a frame last; nothing where it is that of the opening."""
@@ -158,6 +164,8 @@ class Watch:
             self.take_table(event, attempt)
         elif event.kind == 'lock' and not event.outcome:
             self.take_lock(event)
+        elif event.kind == 'lockg' and not event.outcome:
+            self.contexts[int(event.deed[1])] = Lock(event.actor, range(0), event)
         if event.outcome:
             if event.kind in ('commit', 'commitg') and event.is_good:
                 self.commit(event)
@@ -169,6 +177,8 @@ class Watch:
     def release(self, actor: int) -> None:
         if self.locks:
             self.locks = [lock for lock in self.locks if lock.actor != actor]
+        if self.contexts:
+            self.contexts = {guest: lock for guest, lock in self.contexts.items() if lock.actor != actor}
 
     def take_lock(self, event: Event) -> None:
         item = self.item_of(event)
@@ -206,13 +216,14 @@ class Watch:
         item, actor = self.item_of(event), self.actor_of(event)
         if item is None or actor is None:
             return
+        refilled = REFILLS[item.word](self, item) if item.word in REFILLS else {}
         change = COMMITS.get(item.word)
         if change is not None:
             change(self, event, item, actor)
-        if actor.role == 'fw':
+        for frames, words in refilled.items():
             self.commits[event.number] = event
-            for place in FRAMES_OF.get(item.word, ()):
-                self.last_refill.put(only(item.operands[place - 1]), event.number)
+            self.last_refill.put(frames, event.number)
+            self.refills[event.number, frames.start] = words
 
     def refill_words(self, frame: int, since: int) -> str:
         """Which commit behind an event changed the words of a whole frame; nothing where none did."""
@@ -220,13 +231,47 @@ class Watch:
         if number is None or number < since:
             return ''
         event = self.commits[number]
-        what = 'took the frame from its owner, and its words became zero' if self.clears(number) else 'changed the words of this frame'
-        return 'event %d, `%s` of actor %d, %s' % (number, self.item_text(event), event.actor, what)
+        return 'event %d, `%s` of actor %d, %s' % (number, self.item_text(event), event.actor, self.refilled(number, frame))
 
-    def clears(self, number: int) -> bool:
-        """Whether a commit that changed the words of a frame made them zero: RMPUPDATE does."""
-        item = self.item_of(self.commits[number])
-        return item is not None and item.word == 'rmpupdate'
+    def refilled(self, number: int, frame: int) -> str:
+        """What a commit did to all words of a frame."""
+        of_page = [words for (event, first), words in self.refills.items() if event == number and first in (frame, frame - frame % LARGE)]
+        return of_page[-1] if of_page else 'took the frame from its owner, and its words became zero'
+
+    def clears(self, number: int, frame: int) -> bool:
+        """Whether a commit that changed the words of a frame made them zero."""
+        return self.refilled(number, frame).endswith(ZEROED)
+
+
+ZEROED = 'words became zero'
+
+
+def refills_of_launch(watch: Watch, item: Item) -> Dict[range, str]:
+    return {only(item.operands[1]): 'launched the frame as a ZERO page, and its ' + ZEROED} if item.operands[2] == 3 else {}
+
+
+def refills_of_move(watch: Watch, item: Item) -> Dict[range, str]:
+    _, source, target = item.operands
+    return {only(source): 'moved the page away to frame %d, and the frame\'s %s' % (target, ZEROED),
+            only(target): 'moved the words here from frame %d' % source}
+
+
+def refills_of_reclaim(watch: Watch, item: Item) -> Dict[range, str]:
+    facts = watch.facts_of(item.operands[0])
+    if facts is None or facts.asid:
+        return {}
+    return {watch.page_frames(item.operands[0]): 'took the frame back from the firmware, and its ' + ZEROED}
+
+
+def refills_of_swap(watch: Watch, item: Item) -> Dict[range, str]:
+    return {only(item.operands[place - 1]): 'changed the words of this frame' for place in FRAMES_OF[item.word]}
+
+
+# Which frames' words a command of the firmware changes as a whole, and how; told before its commit.
+REFILLS: Dict[str, Callable[[Watch, Item], Dict[range, str]]] = {
+    'launch_update': refills_of_launch, 'page_move': refills_of_move, 'page_reclaim': refills_of_reclaim,
+    'md_init': lambda watch, item: {only(item.operands[0]): 'made a metadata page of the frame, and its ' + ZEROED},
+    **{word: refills_of_swap for word in ('swap_out', 'swap_in', 'md_out', 'md_in', 'md_root_out', 'md_root_in')}}
 
 
 def writes(event: Event) -> bool:

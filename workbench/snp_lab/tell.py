@@ -4,7 +4,7 @@ from __future__ import annotations
 from dataclasses import dataclass, field
 from typing import Callable, Dict, List, Optional, Tuple
 
-from . import codes, updates
+from . import codes, commands, updates
 from .codes import Row
 from .entries import Facts
 from .machine import Attempt, Watch, entry_frame
@@ -92,6 +92,8 @@ class Teller:
             self.decide(told, attempt, actor, item)
         if item.word in updates.INSTRUCTIONS:
             self.decide_update(told, attempt, item)
+        if item.word in commands.COMMANDS:
+            self.decide_command(told, attempt, item)
         self.watch.take(event)
         return told
 
@@ -110,8 +112,6 @@ class Teller:
             decision = self.begin_decision(told, event, actor, item)
         elif event.kind == 'lock':
             decision = self.lock_decision(event, attempt, actor, item)
-        elif event.kind == 'lockg':
-            decision = self.context_decision(event, item)
         elif event.kind == 'commit' and event.outcome[2:] == ('cf', '1'):
             decision = None, 'Validated was %d already' % item.operands[2]
         if decision is not None:
@@ -250,7 +250,7 @@ class Teller:
         written = self.watch.last_write.get(key)
         refill = self.watch.refill_words(event.frame, -1 if written is None else written)
         if refill:
-            if self.watch.clears(self.watch.last_refill.at(event.frame) or 0) and event.outcome[1] != '0x0':
+            if self.watch.clears(self.watch.last_refill.at(event.frame) or 0, event.frame) and event.outcome[1] != '0x0':
                 told.misfit = 'by the scenario this word should be 0x0: %s' % APART
             return None, refill
         if written is not None:
@@ -284,9 +284,21 @@ class Teller:
     def lock_decision(self, event: Event, attempt: Attempt, actor: Actor, item: Item) -> Optional[Decision]:
         if item.word in updates.INSTRUCTIONS:
             return None
-        if event.outcome[0] == 'fw':
-            return None, self.firmware_words(event, item)
-        return self.validate_words(event, attempt, actor, item)
+        return None if item.word in commands.COMMANDS else self.validate_words(event, attempt, actor, item)
+
+    def decide_command(self, told: Told, attempt: Attempt, item: Item) -> None:
+        """The row that refused a lock of a command; an event that the scenario doesn't give is a misfit."""
+        event = told.event
+        refusal: Optional[commands.Refusal] = None
+        if event.kind in ('lock', 'lockg') and ' '.join(event.deed) in commands.deeds_of(item)[len(attempt.events):len(attempt.events) + 1]:
+            refusal = commands.refusal_of(self.watch, event, attempt, item)
+        if refusal is not None and refusal.answer == event.answer:
+            told.decided, told.because = str(refusal.row), refusal.because
+        elif event.outcome and not event.is_good and event.kind in ('lock', 'lockg'):
+            told.decided = str(commands.row_of_status(event) or '')
+        fault = commands.fault(self.watch, event, attempt, item, refusal)
+        if fault:
+            told.misfit = 'by the scenario this should be %s: %s' % (fault, APART)
 
     def decide_update(self, told: Told, attempt: Attempt, item: Item) -> None:
         """The row of RMPUPDATE or PSMASH that refused a lock; a lock or commit that the scenario doesn't give is a misfit."""
@@ -334,28 +346,6 @@ class Teller:
             return codes.VALIDATE[6], 'the mask is %d, and VMPL%d has %d itself' % (mask, actor.vmpl, own)
         return codes.VALIDATE[7], 'this is VMPL%d' % actor.vmpl
 
-    def firmware_words(self, event: Event, item: Item) -> str:
-        frame = int(event.deed[1])
-        facts = self.watch.facts_of(frame)
-        status = number_of(event.outcome[1]) or 0
-        if status == 0x09:
-            return 'frame %d is outside memory, which has %d frames' % (frame, self.scenario.frames)
-        if status == 0x1A and facts is not None:
-            return 'frame %d is in the state %s, which `%s` doesn\'t take there' % (frame, facts.state, item.word)
-        if status in (0x19, 0x1C):
-            return self.watch.entry_words(frame)
-        return ''
-
-    def context_decision(self, event: Event, item: Item) -> Optional[Decision]:
-        guest = int(event.deed[1])
-        status = number_of(event.outcome[1]) or 0
-        if status == 0x16 and guest not in self.scenario.guests:
-            return None, 'guest %d isn\'t declared' % guest
-        if status == 0x02:
-            bound = 'bound' if self.watch.bound.get(guest) else 'not bound'
-            return None, 'guest %d is %s, and %s' % (guest, self.watch.states.get(guest, '?'), bound)
-        return None
-
 
 def retry_words(event: Event, item: Item) -> str:
     """Whether an item that found something in use is attempted again; nothing where its line has no retries."""
@@ -372,6 +362,8 @@ def receiver(event: Event) -> str:
         return codes.HYPERVISOR
     if event.outcome[0] in ('gp', 'vc'):
         return codes.GUEST
+    if event.outcome[0] == 'offline':
+        return codes.NOBODY
     if event.outcome[0] == 'pf':
         return codes.OWN_FAULT if event.kind == 'host' else codes.GUEST
     return ''
@@ -425,8 +417,8 @@ def tell_host(teller: Teller, told: Told, attempt: Attempt, actor: Actor, item: 
 
 
 def tell_lock(teller: Teller, told: Told, attempt: Attempt, actor: Actor, item: Item) -> None:
-    if told.event.kind == 'lockg':
-        told.words.append('%s the context of guest %s' % ('asks for' if told.event.outcome else 'locks', told.event.deed[1]))
+    if item.word in commands.COMMANDS:
+        told.words.append(commands.lock_words(teller.watch, told.event, item))
         return
     if item.word in updates.INSTRUCTIONS:
         told.words.append(updates.lock_words(teller.watch, told.event, item))
@@ -437,8 +429,8 @@ def tell_lock(teller: Teller, told: Told, attempt: Attempt, actor: Actor, item: 
 
 
 def tell_commit(teller: Teller, told: Told, attempt: Attempt, actor: Actor, item: Item) -> None:
-    if told.event.kind == 'commitg':
-        told.words.append('the context of guest %s is changed' % told.event.deed[1])
+    if item.word in commands.COMMANDS and told.event.is_good:
+        told.words.append(commands.commit_words(teller.watch, item))
         return
     if item.word in updates.INSTRUCTIONS:
         told.words.append(updates.commit_words(teller.watch, item))

@@ -19,7 +19,7 @@ SECTIONS = {'snp': 0, 'regions': 1, 'frame': 2, 'guest': 3, 'page': 4, 'word': 5
 KEY = '0' * 64
 # What stands for the number of a frame that no line gives, of one frame and of the first of 512, until all others are known.
 UNNUMBERED = {'': -1, '2m': -2}
-KEPT_WORDS = frozenset('''snp regions frame guest page word map root actor order end opened new asid iv key of at valid invalid cpu host
+KEPT_WORDS = frozenset('''snp regions frame guest page word map root actor order end opened new firmware asid iv key of at valid invalid cpu host
 fw vmpl npt flat gcr3 la57 skip if ok bad value retry read'''.split()) | frozenset(OPERANDS)
 
 
@@ -308,23 +308,38 @@ def write_page(draft: Draft, entry: Entry) -> None:
 
 
 def write_update(draft: Draft, entry: Entry) -> None:
-    """An RMPUPDATE, also one that is told as `rmpupdate F free` or `rmpupdate F of G at P`."""
+    """An RMPUPDATE, also one that is told as `rmpupdate F free`, `rmpupdate F firmware` or `rmpupdate F of G at P`."""
     line, words = entry.line, entry.line.words
     retries = words[-2:] if len(words) > 2 and words[-2] == 'retry' else []
     words = words[:len(words) - len(retries)]
-    if len(words) < 3 or words[2] not in ('free', 'of'):
+    if len(words) < 3 or words[2] not in ('free', 'of', 'firmware'):
         write_plain(draft, entry)
         return
+    if words[2:] == ['firmware']:
+        entry.plain = [' '.join(['rmpupdate', draft.plain_word(line, words[1]), '4k', '1', '0', '0', '1'] + retries)]
+        return
     ends = words[3:] if words[2] == 'free' else words[6:]
-    is_right = words[2] == 'free' or len(words) >= 6 and words[4] == 'at'
+    is_right = words[2] == 'free' or words[2] == 'of' and len(words) >= 6 and words[4] == 'at'
     if not is_right or ends not in ([], ['2m'], ['immutable'], ['2m', 'immutable']) or words[2] == 'free' and 'immutable' in ends:
-        line.fail('this should be `rmpupdate F free` or `rmpupdate F of GUEST at PAGE`, with `2m` or `immutable` behind it')
+        line.fail('this should be `rmpupdate F free`, `rmpupdate F firmware` or `rmpupdate F of GUEST at PAGE`, with `2m` or `immutable` behind it')
     size = '2m' if '2m' in ends else '4k'
     frame = draft.plain_word(line, words[1])
     asked = ['0', '0', '0', '0']
     if words[2] == 'of':
         asked = ['1', asid_of(draft, line, words[3]), draft.plain_word(line, words[5]), '1' if 'immutable' in ends else '0']
     entry.plain = [' '.join(['rmpupdate', frame, size] + asked + retries)]
+
+
+def write_launch(draft: Draft, entry: Entry) -> None:
+    """A launched page, whose type and permissions are `1 0 0 0 0` where they are left out, or one for each of several frames."""
+    line, words = entry.line, entry.line.words
+    retries = words[-2:] if len(words) > 2 and words[-2] == 'retry' else []
+    words = words[:len(words) - len(retries)]
+    if len(words) not in (3, 8):
+        line.fail('this should be `launch_update GUEST FRAMES`, with `1 0 0 0 0` behind it or another type, flag and permissions')
+    ends = words[3:] or ['1', '0', '0', '0', '0']
+    frames = [str(frame) for frame in draft.span(line, words[2])] if RANGE.match(words[2]) else [draft.plain_word(line, words[2])]
+    entry.plain = [' '.join(['launch_update', draft.plain_word(line, words[1]), frame] + ends + retries) for frame in frames]
 
 
 def asid_of(draft: Draft, line: Line, word: str) -> str:
@@ -372,6 +387,8 @@ def write_entries(draft: Draft) -> None:
             write_page(draft, entry)
         elif entry.first == 'rmpupdate':
             write_update(draft, entry)
+        elif entry.first == 'launch_update':
+            write_launch(draft, entry)
         elif entry.first not in ('map', 'frame', 'order'):
             write_plain(draft, entry)
 

@@ -1,5 +1,5 @@
 -- What the lock of a context has tested for a command.
-use Rattle.std.proofs.Common.{◌≡◌, ◌≢◌, ℕ, Bool, true, false, not, cond, ◌||◌, eqb, List, Option, Some, None, ◌⊎◌, ◌<◌, ◌^◌, refl, sym, ap, ◌∙◌, inl, inr}
+use Rattle.std.proofs.Common.{◌≡◌, ◌≢◌, ℕ, Bool, true, false, not, cond, ◌||◌, eqb, List, Option, Some, None, ◌⊎◌, refl, sym, ap, ◌∙◌, inl, inr}
 use Rattle.std.proofs.lemmas.Bool.{cases_eq, eqb-false, ne_eqb, or_from, cond-false}
 use Rattle.snp_model.specs.declared.command.Command.{Command}
 use Rattle.snp_model.specs.declared.command.Command.TheVariants as commands
@@ -10,7 +10,7 @@ use Rattle.snp_model.specs.Firmware.{aead_oflow, has_equal_frames, invalid_guest
 use Rattle.snp_model.specs.FirmwareLocks.{context_extra, context_refusal, counter_refusal, last_counter, root_out_refusal, takes_context, type_refusal}
 use Rattle.snp_model.specs.Measurement.{IsLaunchType}
 use Rattle.snp_model.specs.State.{Context}
-use Rattle.fw_launch.specs.Commits.{HasPassed, LaunchesInRange}
+use Rattle.fw_launch.specs.Commits.{HasPassed}
 
 some≢none : {X : Type 0} (x : X) → Some x ≡ None → ⊥
 some≢none x e = cc
@@ -100,20 +100,3 @@ is_passed guests command context apart taken last = (
       ∙ cond-false _ (Some (Status invalid_guest_state)) _ (ap not taken)
       ∙ last,
 )
-
--- a guest page number in range is one for every command
-pub launches_in_range : (command : Command) (gpn : ℕ) → gpn < 2 ^ 36 → LaunchesInRange command gpn
-launches_in_range (commands.GctxCreate guest frame) gpn below = tt
-launches_in_range (commands.Activate guest asid) gpn below = tt
-launches_in_range (commands.LaunchStart guest) gpn below = tt
-launches_in_range (commands.LaunchUpdate guest frame page_type imi perms) gpn below = below
-launches_in_range (commands.LaunchFinish guest) gpn below = tt
-launches_in_range (commands.MdInit frame) gpn below = tt
-launches_in_range (commands.PageMove guest source target) gpn below = tt
-launches_in_range (commands.SwapOut guest source target metadata entry) gpn below = tt
-launches_in_range (commands.SwapIn guest source target metadata entry) gpn below = tt
-launches_in_range (commands.Reclaim frame) gpn below = tt
-launches_in_range (commands.MdOut guest source target metadata entry) gpn below = tt
-launches_in_range (commands.MdIn guest source target metadata entry) gpn below = tt
-launches_in_range (commands.MdRootOut guest source target) gpn below = tt
-launches_in_range (commands.MdRootIn guest source target) gpn below = tt

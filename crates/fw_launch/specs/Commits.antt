@@ -1,5 +1,5 @@
 -- The commits of the firmware's commands over one page and one context: which pages are made here, and what the commit of a context asks (after the SEV-SNP firmware ABI 56860, chapter 8).
-use Rattle.std.specs.Prelude.{◌≡◌, ℕ, ◌<◌, ◌^◌, List, Option, Some, None}
+use Rattle.std.specs.Prelude.{◌≡◌, ℕ, List, Option, Some, None}
 use Rattle.snp_model.specs.declared.command.Command.{Command}
 use Rattle.snp_model.specs.declared.command.Command.TheVariants as commands
 use Rattle.snp_model.specs.declared.event.FwRefusal.{FwRefusal}
@@ -34,8 +34,3 @@ pages_committed (commands.MdRootIn guest source target) slot pages = pages
 -- what the lock of a context has tested for a command still holds, with these guests or others
 abbrev pub HasPassed : Command → Context → Type 0
 HasPassed command context = (guests : List GuestSpec) × (context_refusal guests command context None ≡ None)
-
--- the guest page number of a page that is launched is below 2^36
-abbrev pub LaunchesInRange : Command → ℕ → Type 0
-LaunchesInRange (commands.LaunchUpdate guest frame page_type imi perms) gpn = gpn < 2 ^ 36
-LaunchesInRange command gpn = Unit {0}

@@ -1,11 +1,11 @@
-ghost use Rattle.std.specs.Prelude.{◌≡◌, ◌≢◌, ◌<◌, ◌^◌, Some};
+ghost use Rattle.std.specs.Prelude.{◌≡◌, ◌≢◌, ◌<◌, Some};
 ghost use Rattle.snp_model.specs.declared.entry.PageSize.TheVariants.{Small};
 ghost use Rattle.snp_model.specs.Entries.{facts_at, holder_at, region_pages, released, without_locks};
 ghost use Rattle.snp_model.specs.FirmwareCommits.{at_frame, context_after, context_page, counted, launched_into, launched_page};
 ghost use Rattle.snp_model.specs.FirmwareLocks.{last_counter};
 ghost use Rattle.snp_model.specs.HeldContexts.{with_context};
 ghost use Rattle.snp_model.specs.Measurement.{IsLaunchType};
-ghost use Rattle.fw_launch.specs.Commits.{HasPassed, LaunchesInRange, pages_committed};
+ghost use Rattle.fw_launch.specs.Commits.{HasPassed, pages_committed};
 
 use guest_context::GuestContext;
 use launch_digest::Digest;
@@ -46,7 +46,6 @@ pub fn context_commit(
 )
     requires held { context.old.holder ≡ Some actor }
     requires tested { HasPassed command.now context.old.context }
-    requires in_range { LaunchesInRange command.now gpn }
     ensures context { context.new.context ≡ context_after command.now gpn words.now context.old.context }
     ensures lock { context.new.holder ≡ released actor context.old.holder }
 {
@@ -88,7 +87,6 @@ fn change_page(memory: &mut Region, rmp: &mut RmpRegion, command: &Command, slot
 #[tactic(auto, unfolding(snp_model::specs::FirmwareCommits::context_after))]
 fn change_context(context: &mut GuestContext, command: &Command, gpn: u64, words: &[u64; 512])
     requires tested { HasPassed command.now context.old.context }
-    requires in_range { LaunchesInRange command.now gpn }
     ensures { context.new ≡ with_context (context_after command.now gpn words.now context.old.context) context.old }
 {
     match command {
@@ -127,8 +125,7 @@ fn measure(
     gpn: u64,
     words: &[u64; 512],
 )
-    requires launched { IsLaunchType page_type }
-    requires in_range { gpn < 2 ^ 36 }
+    requires { IsLaunchType page_type }
     ensures { context.new ≡ with_context (launched_into page_type imi perms gpn words.now context.old.context) context.old }
 {
     context.digest.extend(page_type, imi, perms, gpn, words);

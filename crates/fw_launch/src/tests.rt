@@ -631,10 +631,7 @@ fn page_commits(rt: HostRuntime) -> Result<(), Fail> {
 }
 
 // Locks a context that nobody holds for actor 2, and commits.
-#[tactic(auto, using(crate::proofs::PassedLaws::launches_in_range))]
-fn go<R: Abort>(rt: &R, context: &mut GuestContext, command: &Command, gpn: u64, word: u64)
-    requires { gpn < 0x10_0000_0000 }
-{
+fn go<R: Abort>(rt: &R, context: &mut GuestContext, command: &Command, gpn: u64, word: u64) {
     if context.holder.is_some() {
         assert!(rt; false);
     }
@@ -702,7 +699,6 @@ const LAUNCH: [(Command, u64, u64, GuestState, bool, u32, [u8; 4]); 8] = [
 fn a_launch(rt: HostRuntime) {
     let mut context = context_in(GuestState::Absent, false, None);
     for (command, gpn, word, state, bound, pages, digest) in LAUNCH {
-        assert!(rt; gpn < 0x10_0000_0000);
         go(&rt, &mut context, &command, gpn, word);
         assert_eq!(rt; context.state, state, "{command:?}");
         assert_eq!(rt; context.bound, bound, "{command:?}");

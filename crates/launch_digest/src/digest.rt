@@ -1,5 +1,6 @@
-ghost use Rattle.std.specs.Prelude.{◌≡◌, ◌<◌, ◌^◌, ℕ, List, [], ◌∷◌, ◌++◌, length};
+ghost use Rattle.std.specs.Prelude.{◌≡◌, ℕ, ◌*◌, List, [], ◌∷◌, ◌++◌, length};
 ghost use Rattle.sha2.specs.Sha512.{sha384};
+ghost use Rattle.std.specs.Int.{to_le_bytes, w64};
 ghost use Rattle.snp_model.specs.Measurement.{digest_after, measure, page_bytes, page_contents, page_info, IsLaunchType, LaunchedPage};
 
 use sha2::{Digest as _, Sha384};
@@ -41,12 +42,12 @@ impl Digest {
     /// Takes one more launched page into the digest.
     ///
     /// `page_type` is 1 (NORMAL), 3 (ZERO) or 4 (UNMEASURED), `imi` whether the page belongs to an initial
-    /// migration image, `perms` the permissions of VMPL1, VMPL2 and VMPL3, `gpn` the guest page number.
+    /// migration image, `perms` the permissions of VMPL1, VMPL2 and VMPL3, `gpn` the guest page number, of whose
+    /// address the low 64 bits count.
     /// The words count for a NORMAL page alone.
     #[tactic(auto, unfolding(snp_model::specs::Measurement::page_info))]
     pub fn extend(&mut self, page_type: u8, imi: bool, perms: [u8; 3], gpn: u64, words: &[u64; 512])
         requires launched { IsLaunchType page_type }
-        requires in_range { gpn < 2 ^ 36 }
         ensures { self.new ≡ digest_after self.old (record {
           page_type = page_type;
           imi = imi;
@@ -61,7 +62,7 @@ impl Digest {
         page_info.update(contents);
         page_info.update(PAGE_INFO_LENGTH.to_le_bytes());
         page_info.update([page_type, u8::from(imi), perms[2], perms[1], perms[0], 0]);
-        page_info.update((gpn * PAGE_SIZE).to_le_bytes());
+        page_info.update(address_bytes(gpn));
         self.bytes = page_info.finalize();
     }
 
@@ -95,6 +96,13 @@ fn page_contents(page_type: u8, words: &[u64; 512]) -> [u8; 48]
     } else {
         [0; 48]
     }
+}
+
+// The field GPA of a page: the low 64 bits of its address, low byte first.
+fn address_bytes(gpn: u64) -> [u8; 8]
+    ensures { result ≡ to_le_bytes w64 (gpn * 4096) }
+{
+    gpn.wrapping_mul(PAGE_SIZE).to_le_bytes()
 }
 
 // The SHA-384 digest of a page's bytes. Each word goes into the hasher by itself, so the page is not copied whole.

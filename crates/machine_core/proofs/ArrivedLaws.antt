@@ -44,45 +44,47 @@ not_arrived frames cpu lookup (deed ∷ others) none = cc
 
 -- the move of its lock
 pub validate_locks : (guests : List GuestSpec) (part : ActorPart) (cpu : Processor) (size : PageSize) (validate : Bool) (gpn : ℕ) (private : Bool) (frame : ℕ) (leaf : PageSize) (old new : Stock) (shown : Shown) → part.standing ≡ nothing_taken
-    → shown ≡ lock_shown (page_lock (pages_of old.bays frame).facts.size frame) (page_refused (validate_refusal (page_place (asid_of guests cpu.guest) cpu.vmpl gpn frame leaf) size) frame old) → pages_of new.bays ≡ pages_of old.bays
+    → shown ≡ lock_shown (page_lock (pages_of old.bays frame).facts.size frame) (page_refused (validate_refusal (page_place (asid_of guests cpu.guest) cpu.vmpl gpn frame leaf) size) frame old) → pages_of new.bays ≡ pages_of old.bays → new.contexts ≡ old.contexts
     → validate_move guests (view_on old guests) part cpu size validate part.standing.locks gpn private frame leaf ≡ move_by shown (view_on new guests) (standing_by shown part.standing)
 unfolding validate_move
-validate_locks guests part cpu size validate gpn private frame leaf old new shown none shown_is same =
+validate_locks guests part cpu size validate gpn private frame leaf old new shown none shown_is same contexts =
     ap (λ (s : Standing). validate_move guests (view_on old guests) part cpu size validate s.locks gpn private frame leaf) none
-    ∙ lock_moves guests part old new (page_lock (pages_of old.bays frame).facts.size frame) (page_refused (validate_refusal (page_place (asid_of guests cpu.guest) cpu.vmpl gpn frame leaf) size) frame old) shown shown_is same
+    ∙ lock_moves guests part old new (page_lock (pages_of old.bays frame).facts.size frame) (page_refused (validate_refusal (page_place (asid_of guests cpu.guest) cpu.vmpl gpn frame leaf) size) frame old) shown shown_is same contexts
 
 -- and of its commit
 pub validate_commits : (guests : List GuestSpec) (part : ActorPart) (cpu : Processor) (size : PageSize) (validate : Bool) (gpn : ℕ) (private : Bool) (frame : ℕ) (leaf : PageSize) (lock : PageLock) (old new : Stock) (shown : Shown) → part.standing.locks ≡ lock ∷ []
     → IsLockOfPage old frame lock → shown ≡ record { deed = deeds.Commit frame gpn size; outcome = Some (outcomes.Carry (carry validate (pages_of old.bays frame).facts)); lock = None }
     → (let own = (pages_of old.bays frame).facts in pages_of new.bays ≡ pages_validated validate own (page_lock own.size frame) (pages_of old.bays))
+    → new.contexts ≡ old.contexts
     → validate_move guests (view_on old guests) part cpu size validate part.standing.locks gpn private frame leaf ≡ move_by shown (view_on new guests) (standing_by shown part.standing)
 unfolding validate_move
-validate_commits guests part cpu size validate gpn private frame leaf lock old new shown are lock_is shown_is pages_are =
+validate_commits guests part cpu size validate gpn private frame leaf lock old new shown are lock_is shown_is pages_are contexts =
     let own = (pages_of old.bays frame).facts in
     ap (λ (ls : List PageLock). validate_move guests (view_on old guests) part cpu size validate ls gpn private frame leaf) (are ∙ ap (λ (l : PageLock). l ∷ []) lock_is)
-    ∙ committed (contents_of old guests) part (deeds.Commit frame gpn size) (outcomes.Carry (carry validate own)) (pages_validated validate own (page_lock own.size frame) (pages_of old.bays)) guests new shown shown_is pages_are refl
+    ∙ committed old part (deeds.Commit frame gpn size) (outcomes.Carry (carry validate own)) (pages_validated validate own (page_lock own.size frame) (pages_of old.bays)) guests new shown shown_is pages_are contexts
 
 -- RMPADJUST
 
 -- the move of its lock
 pub adjust_locks : (guests : List GuestSpec) (part : ActorPart) (cpu : Processor) (size : PageSize) (target mask : ℕ) (vmsa : Bool) (gpn : ℕ) (private : Bool) (frame : ℕ) (leaf : PageSize) (old new : Stock) (shown : Shown) → part.standing ≡ nothing_taken
-    → shown ≡ lock_shown (page_lock (pages_of old.bays frame).facts.size frame) (page_refused (adjust_refusal (page_place (asid_of guests cpu.guest) cpu.vmpl gpn frame leaf) size mask vmsa) frame old) → pages_of new.bays ≡ pages_of old.bays
+    → shown ≡ lock_shown (page_lock (pages_of old.bays frame).facts.size frame) (page_refused (adjust_refusal (page_place (asid_of guests cpu.guest) cpu.vmpl gpn frame leaf) size mask vmsa) frame old) → pages_of new.bays ≡ pages_of old.bays → new.contexts ≡ old.contexts
     → adjust_move guests (view_on old guests) part cpu size target mask vmsa part.standing.locks gpn private frame leaf ≡ move_by shown (view_on new guests) (standing_by shown part.standing)
 unfolding adjust_move
-adjust_locks guests part cpu size target mask vmsa gpn private frame leaf old new shown none shown_is same =
+adjust_locks guests part cpu size target mask vmsa gpn private frame leaf old new shown none shown_is same contexts =
     ap (λ (s : Standing). adjust_move guests (view_on old guests) part cpu size target mask vmsa s.locks gpn private frame leaf) none
-    ∙ lock_moves guests part old new (page_lock (pages_of old.bays frame).facts.size frame) (page_refused (adjust_refusal (page_place (asid_of guests cpu.guest) cpu.vmpl gpn frame leaf) size mask vmsa) frame old) shown shown_is same
+    ∙ lock_moves guests part old new (page_lock (pages_of old.bays frame).facts.size frame) (page_refused (adjust_refusal (page_place (asid_of guests cpu.guest) cpu.vmpl gpn frame leaf) size mask vmsa) frame old) shown shown_is same contexts
 
 -- and of its commit
 pub adjust_commits : (guests : List GuestSpec) (part : ActorPart) (cpu : Processor) (size : PageSize) (target mask : ℕ) (vmsa : Bool) (gpn : ℕ) (private : Bool) (frame : ℕ) (leaf : PageSize) (lock : PageLock) (old new : Stock) (shown : Shown) → part.standing.locks ≡ lock ∷ []
     → IsLockOfPage old frame lock → shown ≡ record { deed = deeds.Commit frame gpn size; outcome = Some (outcomes.Status 0); lock = None }
     → (let own = (pages_of old.bays frame).facts in pages_of new.bays ≡ pages_adjusted cpu.vmpl target mask vmsa (page_lock own.size frame) (pages_of old.bays))
+    → new.contexts ≡ old.contexts
     → adjust_move guests (view_on old guests) part cpu size target mask vmsa part.standing.locks gpn private frame leaf ≡ move_by shown (view_on new guests) (standing_by shown part.standing)
 unfolding adjust_move
-adjust_commits guests part cpu size target mask vmsa gpn private frame leaf lock old new shown are lock_is shown_is pages_are =
+adjust_commits guests part cpu size target mask vmsa gpn private frame leaf lock old new shown are lock_is shown_is pages_are contexts =
     let own = (pages_of old.bays frame).facts in
     ap (λ (ls : List PageLock). adjust_move guests (view_on old guests) part cpu size target mask vmsa ls gpn private frame leaf) (are ∙ ap (λ (l : PageLock). l ∷ []) lock_is)
-    ∙ committed (contents_of old guests) part (deeds.Commit frame gpn size) (outcomes.Status 0) (pages_adjusted cpu.vmpl target mask vmsa (page_lock own.size frame) (pages_of old.bays)) guests new shown shown_is pages_are refl
+    ∙ committed old part (deeds.Commit frame gpn size) (outcomes.Status 0) (pages_adjusted cpu.vmpl target mask vmsa (page_lock own.size frame) (pages_of old.bays)) guests new shown shown_is pages_are contexts
 
 no_status : (status : Option ℕ) → option_map outcomes.Status status ≡ None → status ≡ None
 no_status None none = refl

@@ -28,7 +28,7 @@ use Rattle.snp_model.specs.Step.{access_move}
 use Rattle.snp_model.proofs.LockLaws.{not_true}
 use Rattle.snp_model.proofs.RangeLaws.{over_beside}
 use Rattle.machine_core.specs.declared.bay.Bay.{Bay}
-use Rattle.machine_core.specs.Bays.{Bays, IsWholeRegion, Stock, contents_of, facts_of, holder_in, holders_of, locks_of, page_in, pages_of, put, stock_with, view_on, words_of}
+use Rattle.machine_core.specs.Bays.{Bays, IsWholeRegion, Stock, contents_of, context_holders_of, facts_of, holder_in, holders_of, locks_of, page_in, pages_of, put, stock_with, view_on, words_of}
 use Rattle.snp_model.proofs.LockLaws.{not_true}
 use Rattle.snp_model.proofs.RangeLaws.{over_beside}
 use Rattle.snp_model.specs.Verdicts.{private_verdict}
@@ -75,7 +75,7 @@ holder_each bays region old new there same f =
 
 pub locks_stay : (stock new_stock : Stock) (region : ℕ) (old new : Bay) → stock.bays region ≡ Some old → new.rmp.holders ≡ old.rmp.holders → new_stock ≡ stock_with region new stock → locks_of new_stock ≡ locks_of stock
 locks_stay stock new_stock region old new there same is =
-    ap locks_of is ∙ (λ i. record { holder = λ f. holder_each stock.bays region old new there same f i; context_holder = λ guest. None })
+    ap locks_of is ∙ (λ i. record { holder = λ f. holder_each stock.bays region old new there same f i; context_holder = context_holders_of stock.contexts })
 
 -- a bay in which the page of one frame alone may have changed
 abbrev OtherSlotsStay : Bay → Bay → ℕ → Type 0
@@ -310,9 +310,9 @@ access_view stock guests part deed frame index bay op Pass there =
     ap (λ (word : ℕ). memory_move (contents_of stock guests) part deed (Some (outcome_of op word)) (pages word)) word_is
     ∙ ap (memory_move (contents_of stock guests) part deed (Some (outcome_of op (word_at bay.memory (frame % 512) index)))) (after_view (writes op) stock.bays frame index (word_after op (word_at bay.memory (frame % 512) index)) bay there)
 access_view stock guests part deed frame index bay op Hidden there =
-    ap (λ (bs : Bays). quiet_move (contents_of (record { bays = bs }) guests) part deed (Some outcomes.Opaque)) (sym (put_same stock.bays (frame / 512) bay there))
+    ap (λ (bs : Bays). quiet_move (contents_of (record stock { bays = bs }) guests) part deed (Some outcomes.Opaque)) (sym (put_same stock.bays (frame / 512) bay there))
 access_view stock guests part deed frame index bay op (Fault outcome) there =
-    ap (λ (bs : Bays). quiet_move (contents_of (record { bays = bs }) guests) part deed (Some outcome)) (sym (put_same stock.bays (frame / 512) bay there))
+    ap (λ (bs : Bays). quiet_move (contents_of (record stock { bays = bs }) guests) part deed (Some outcome)) (sym (put_same stock.bays (frame / 512) bay there))
 
 -- a checked access to a word of the bay of a frame was made, and the bay was put back
 pub record IsAccessed (stock new_stock : Stock) (frame slot index : ℕ) (bay : Bay) (memory : List (List ℕ)) (op : Op) (verdict : RmpEntry → Verdict) (outcome : Outcome) : Type 0 where

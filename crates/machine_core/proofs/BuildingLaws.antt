@@ -11,6 +11,7 @@ use Rattle.snp_model.specs.declared.entry.PageSize.{PageSize}
 use Rattle.snp_model.specs.declared.entry.PageSize.TheVariants.{Small, Large}
 use Rattle.snp_model.specs.Entries.{facts_within, with_entry}
 use Rattle.snp_model.specs.Facts.{frames_in}
+use Rattle.snp_model.specs.HeldContexts.{HeldContext}
 use Rattle.snp_model.specs.Locks.{in_range}
 use Rattle.snp_model.specs.Opening.{asid_of, facts_from, page_facts, with_page}
 use Rattle.snp_model.specs.Sound.{FramesDiffer, IsPage}
@@ -85,9 +86,9 @@ small_first facts page small = small page.frame (first page.size)
     first Large = grind (arith, nat_tests)
 
 -- the entry of a page of 2 MB may be written where no lock is held
-pub page_region : (bays : List Bay) (frames guests : ℕ) (page : PageSpec) (entry : RmpEntry) → locks_of (own_stock bays) ≡ no_locks → IsPage frames guests page
-    → entry.assigned ≡ true → entry.size ≡ page.size → entry.gpn ≡ page.gpn → entry.size ≡ Large → IsWholeRegion (own_stock bays) page.frame entry
-page_region bays frames guests page entry unlocked is assigned size gpn large =
+pub page_region : (bays : List Bay) (contexts : List HeldContext) (frames guests : ℕ) (page : PageSpec) (entry : RmpEntry) → locks_of (own_stock bays contexts) ≡ no_locks → IsPage frames guests page
+    → entry.assigned ≡ true → entry.size ≡ page.size → entry.gpn ≡ page.gpn → entry.size ≡ Large → IsWholeRegion (own_stock bays contexts) page.frame entry
+page_region bays contexts frames guests page entry unlocked is assigned size gpn large =
     let aligned = is.aligned (sym size ∙ large) in
     record {
       assigned = assigned;

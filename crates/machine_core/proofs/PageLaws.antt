@@ -18,6 +18,7 @@ use Rattle.snp_model.specs.State.{ActorPart, Page, PageLock, nothing_taken}
 use Rattle.snp_model.specs.Validation.{adjusted_facts, carry, pages_adjusted, pages_validated, validated_facts}
 use Rattle.machine_core.specs.declared.bay.Bay.{Bay}
 use Rattle.machine_core.specs.declared.shown.Shown.{Shown}
+use Rattle.machine_core.specs.declared.taken_lock.Taken.TheVariants.{OfPage}
 use Rattle.machine_core.specs.declared.taken_lock.TakenLock.{TakenLock}
 use Rattle.machine_core.specs.Bays.{Bays, Stock, holder_in, holders_of, page_in, pages_of, view_on}
 use Rattle.machine_core.specs.Moves.{lock_shown, locks_by, move_by, standing_by}
@@ -30,7 +31,7 @@ slot_base : (size : PageSize) (frame : ℕ) → page_base size (frame % 512) ≡
 slot_base Small frame = refl
 slot_base Large frame = omega arith
 
-base_fits : (size : PageSize) (frame : ℕ) → page_base size frame % 512 + frames_in size ≤ 512
+pub base_fits : (size : PageSize) (frame : ℕ) → page_base size frame % 512 + frames_in size ≤ 512
 base_fits Small frame = omega arith
 base_fits Large frame = omega arith
 
@@ -39,15 +40,15 @@ base_region Small frame = refl
 base_region Large frame = omega arith
 
 -- the frame is in it
-own_frame : (size : PageSize) (frame : ℕ) → covers frame (page_lock size frame) ≡ true
+pub own_frame : (size : PageSize) (frame : ℕ) → covers frame (page_lock size frame) ≡ true
 own_frame Small frame = grind (arith, nat_tests)
 own_frame Large frame = grind (arith, nat_tests)
 
-slot_lock : {A : Type 0} (size : PageSize) (frame : ℕ) (change : A → A) (kept : ℕ → A)
+pub slot_lock : {A : Type 0} (size : PageSize) (frame : ℕ) (change : A → A) (kept : ℕ → A)
     → over_lock (page_lock size (frame % 512)) change kept ≡ over (page_base size frame % 512) (frames_in size) (λ place. change) kept
 slot_lock size frame change kept = ap (λ (base : ℕ). over base (frames_in size) (λ place. change) kept) (slot_base size frame)
 
-put_at_base : (stock new_stock : Stock) (size : PageSize) (frame : ℕ) (old new : Bay) → IsPut stock new_stock (frame / 512) old new → IsPut stock new_stock (page_base size frame / 512) old new
+pub put_at_base : (stock new_stock : Stock) (size : PageSize) (frame : ℕ) (old new : Bay) → IsPut stock new_stock (frame / 512) old new → IsPut stock new_stock (page_base size frame / 512) old new
 put_at_base stock new_stock size frame old new is = subst (λ (r : ℕ). IsPut stock new_stock r old new) (sym (base_region size frame)) is
 
 -- the facts and the holder of the frame
@@ -55,7 +56,7 @@ pub own_facts : (bays : Bays) (bay : Bay) (frame : ℕ) → bays (frame / 512) �
 unfolding pages_of
 own_facts bays bay frame there = ap (λ (o : Option Bay). (page_in o (frame % 512)).facts) there
 
-own_holder : (bays : Bays) (bay : Bay) (frame : ℕ) → bays (frame / 512) ≡ Some bay → holders_of bays frame ≡ holder_at bay.rmp (frame % 512)
+pub own_holder : (bays : Bays) (bay : Bay) (frame : ℕ) → bays (frame / 512) ≡ Some bay → holders_of bays frame ≡ holder_at bay.rmp (frame % 512)
 unfolding holders_of
 own_holder bays bay frame there = ap (λ (o : Option Bay). holder_in o (frame % 512)) there
 
@@ -78,7 +79,7 @@ own_size frame slot stock bay entry there slot_is entry_is = ap (λ (e : RmpEntr
 -- the whole page is locked
 pub page_locked : (stock new_stock : Stock) (actor frame slot : ℕ) (old new : Bay) (entry : RmpEntry) (taken : TakenLock) (shown : Shown) → IsPut stock new_stock (frame / 512) old new → slot ≡ frame % 512
     → holder_at new.rmp ≡ with_lock (page_lock (facts_at old.rmp slot).size slot) actor (holder_at old.rmp) → HoldsNone actor stock → entry ≡ facts_at old.rmp slot
-    → taken ≡ record { frame = frame; base = page_base entry.size frame; count = frames_in entry.size } → shown ≡ record { deed = deeds.Lock taken.frame; outcome = None; lock = Some taken }
+    → taken ≡ record { frame = frame; base = page_base entry.size frame; count = frames_in entry.size } → shown ≡ record { deed = deeds.Lock taken.frame; outcome = None; lock = Some (OfPage taken) }
     → holders_of new_stock.bays ≡ relocked actor (locks_by shown nothing_taken) (holders_of stock.bays)
 page_locked stock new_stock actor frame slot old new entry taken shown is slot_is locked none entry_is taken_is shown_is =
     let size = entry.size in
@@ -94,17 +95,17 @@ page_locked stock new_stock actor frame slot old new entry taken shown is slot_i
 
 -- what is shown of it
 pub page_shown : (stock : Stock) (frame slot : ℕ) (bay : Bay) (entry : RmpEntry) (taken : TakenLock) (refusal : Option Refusal) (shown : Shown) → stock.bays (frame / 512) ≡ Some bay → slot ≡ frame % 512 → entry ≡ facts_at bay.rmp slot
-    → taken ≡ record { frame = frame; base = page_base entry.size frame; count = frames_in entry.size } → shown ≡ record { deed = deeds.Lock taken.frame; outcome = None; lock = Some taken } → refusal ≡ None
+    → taken ≡ record { frame = frame; base = page_base entry.size frame; count = frames_in entry.size } → shown ≡ record { deed = deeds.Lock taken.frame; outcome = None; lock = Some (OfPage taken) } → refusal ≡ None
     → shown ≡ lock_shown (page_lock (pages_of stock.bays frame).facts.size frame) refusal
 page_shown stock frame slot bay entry taken refusal shown there slot_is entry_is taken_is shown_is passed =
     shown_locked (page_lock entry.size frame) taken refusal shown shown_is taken_is passed
     ∙ ap (λ (size : PageSize). lock_shown (page_lock size frame) refusal) (sym (own_size frame slot stock bay entry there slot_is entry_is))
 
 -- the move of the lock
-pub lock_moves : (guests : List GuestSpec) (part : ActorPart) (old new : Stock) (lock : PageLock) (refusal : Option Refusal) (shown : Shown) → shown ≡ lock_shown lock refusal → pages_of new.bays ≡ pages_of old.bays
+pub lock_moves : (guests : List GuestSpec) (part : ActorPart) (old new : Stock) (lock : PageLock) (refusal : Option Refusal) (shown : Shown) → shown ≡ lock_shown lock refusal → pages_of new.bays ≡ pages_of old.bays → new.contexts ≡ old.contexts
     → instruction_lock (view_on old guests) part lock refusal ≡ move_by shown (view_on new guests) (standing_by shown part.standing)
-lock_moves guests part old new lock refusal shown shown_is same =
-    lock_shows (view_on old guests) part lock refusal ∙ quiet_shows guests part old new (lock_shown lock refusal) shown shown_is same
+lock_moves guests part old new lock refusal shown shown_is same contexts =
+    lock_shows (view_on old guests) part lock refusal ∙ quiet_shows guests part old new (lock_shown lock refusal) shown shown_is same contexts
 
 -- The commit
 

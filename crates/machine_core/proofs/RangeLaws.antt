@@ -23,16 +23,16 @@ pub record IsPut (stock new_stock : Stock) (region : ℕ) (old new : Bay) : Type
   pub there : stock.bays region ≡ Some old
   pub stock_is : new_stock ≡ stock_with region new stock
 
-read_old : {A : Type 0} (read : Option Bay → ℕ → A) (stock new_stock : Stock) (region : ℕ) (old new : Bay) → IsPut stock new_stock region old new
+pub read_old : {A : Type 0} (read : Option Bay → ℕ → A) (stock new_stock : Stock) (region : ℕ) (old new : Bay) → IsPut stock new_stock region old new
     → (f : ℕ) → f / 512 ≡ region → by_frame read stock.bays f ≡ read (Some old) (f % 512)
 read_old read stock new_stock region old new is f here = ap (λ (o : Option Bay). read o (f % 512)) (ap stock.bays here ∙ is.there)
 
-read_new : {A : Type 0} (read : Option Bay → ℕ → A) (stock new_stock : Stock) (region : ℕ) (old new : Bay) → IsPut stock new_stock region old new
+pub read_new : {A : Type 0} (read : Option Bay → ℕ → A) (stock new_stock : Stock) (region : ℕ) (old new : Bay) → IsPut stock new_stock region old new
     → (f : ℕ) → f / 512 ≡ region → by_frame read new_stock.bays f ≡ read (Some new) (f % 512)
 read_new read stock new_stock region old new is f here =
     ap (λ (s : Stock). by_frame read s.bays f) is.stock_is ∙ ap (λ (o : Option Bay). read o (f % 512)) (put_at stock.bays region new (f / 512) here)
 
-read_beside : {A : Type 0} (read : Option Bay → ℕ → A) (stock new_stock : Stock) (region : ℕ) (old new : Bay) → IsPut stock new_stock region old new
+pub read_beside : {A : Type 0} (read : Option Bay → ℕ → A) (stock new_stock : Stock) (region : ℕ) (old new : Bay) → IsPut stock new_stock region old new
     → (f : ℕ) → f / 512 ≢ region → by_frame read new_stock.bays f ≡ by_frame read stock.bays f
 read_beside read stock new_stock region old new is f apart =
     ap (λ (s : Stock). by_frame read s.bays f) is.stock_is ∙ ap (λ (o : Option Bay). read o (f % 512)) (put_off stock.bays region new (f / 512) apart)
@@ -112,7 +112,7 @@ unfolding holders_of
 holders_stay stock new_stock region old new is same = λ i f. stays_each holder_in stock new_stock region old new is same f i
 
 -- a lock that another has stays as an actor's are released
-released_other : (actor : ℕ) (holder : Option ℕ) → holder ≢ Some actor → released actor holder ≡ holder
+pub released_other : (actor : ℕ) (holder : Option ℕ) → holder ≢ Some actor → released actor holder ≡ holder
 released_other actor None other = refl
 released_other actor (Some holder) other =
     ⊎_elim
@@ -133,6 +133,25 @@ holders_released stock new_stock region actor old new is left within = λ i f. e
         read_new holder_in stock new_stock region old new is f here ∙ (λ i. left i (f % 512)) ∙ ap (released actor) (sym (read_old holder_in stock new_stock region old new is f here)))
         (λ (apart : f / 512 ≢ region).
         read_beside holder_in stock new_stock region old new is f apart ∙ sym (released_other actor (by_frame holder_in stock.bays f) (λ held. apart (within f held))))
+        (cases_eq (f / 512) region)
+
+-- an actor has released its locks in one region
+pub region_released : (stock new_stock : Stock) (region actor : ℕ) (old new : Bay) → IsPut stock new_stock region old new → holder_in (Some new) ≡ (λ (slot : ℕ). released actor (holder_in (Some old) slot))
+    → holders_of new_stock.bays ≡ (λ (f : ℕ). cond (eqb (f / 512) region) (released actor (holders_of stock.bays f)) (holders_of stock.bays f))
+unfolding holders_of
+region_released stock new_stock region actor old new is left = λ i f. each f i
+  where
+    each : (f : ℕ) → by_frame holder_in new_stock.bays f ≡ cond (eqb (f / 512) region) (released actor (by_frame holder_in stock.bays f)) (by_frame holder_in stock.bays f)
+    each f =
+        let held = by_frame holder_in stock.bays f in
+        ⊎_elim
+        (λ (here : f / 512 ≡ region).
+        let own : eqb (f / 512) region ≡ true = grind (arith, nat_tests) in
+        read_new holder_in stock new_stock region old new is f here ∙ (λ i. left i (f % 512)) ∙ ap (released actor) (sym (read_old holder_in stock new_stock region old new is f here))
+        ∙ ap (λ (b : Bool). cond b (released actor held) held) (sym own))
+        (λ (apart : f / 512 ≢ region).
+        let other : eqb (f / 512) region ≡ false = grind (arith, nat_tests) in
+        read_beside holder_in stock new_stock region old new is f apart ∙ ap (λ (b : Bool). cond b (released actor held) held) (sym other))
         (cases_eq (f / 512) region)
 
 -- an actor without a lock has none to release

@@ -22,6 +22,7 @@ use Rattle.snp_model.specs.Verdicts.{is_large}
 use Rattle.snp_model.proofs.TestedLaws.{let_through, smash_passes}
 use Rattle.machine_core.specs.declared.bay.Bay.{Bay}
 use Rattle.machine_core.specs.declared.shown.Shown.{Shown}
+use Rattle.machine_core.specs.declared.taken_lock.Taken.TheVariants.{OfPage}
 use Rattle.machine_core.specs.declared.taken_lock.TakenLock.{TakenLock}
 use Rattle.machine_core.specs.Bays.{Bays, Stock, contents_of, holder_in, holders_of, page_in, pages_of, view_on}
 use Rattle.machine_core.specs.Moves.{lock_shown, locks_by, move_by, standing_by}
@@ -92,7 +93,7 @@ page_base frame first = omega arith
 
 pub page_shown : (frames frame : ℕ) (stock : Stock) (region : ℕ) (bay : Bay) (taken : TakenLock) (shown : Shown) → IsFound (is_bad_smash frames frame) frame region → stock.bays region ≡ Some bay
     → smash_page_refusal (facts_at bay.rmp 0) (holder_at bay.rmp 0) ≡ None → taken ≡ record { frame = frame; base = frame; count = 512 }
-    → shown ≡ record { deed = deeds.Lock taken.frame; outcome = None; lock = Some taken } → shown ≡ lock_shown (page_lock (pages_of stock.bays frame).facts.size frame) (smash_refused frames frame stock)
+    → shown ≡ record { deed = deeds.Lock taken.frame; outcome = None; lock = Some (OfPage taken) } → shown ≡ lock_shown (page_lock (pages_of stock.bays frame).facts.size frame) (smash_refused frames frame stock)
 page_shown frames frame stock region bay taken shown found there passes taken_is is =
     let first = smash_first frames frame found.fine in
     let large = ap (λ (facts : RmpEntry). facts.size) (first_facts stock.bays bay frame first (ap stock.bays (sym found.region_is) ∙ there)) ∙ large_passes (facts_at bay.rmp 0) (holder_at bay.rmp 0) passes in
@@ -107,7 +108,7 @@ region_lock actor frame size old new first large locked =
 
 pub lock_taken : (stock new_stock : Stock) (frames actor frame region : ℕ) (old new : Bay) (taken : TakenLock) (shown : Shown) → IsFound (is_bad_smash frames frame) frame region → IsPut stock new_stock region old new
     → smash_page_refusal (facts_at old.rmp 0) (holder_at old.rmp 0) ≡ None → holder_at new.rmp ≡ with_lock (page_lock (facts_at old.rmp 0).size 0) actor (holder_at old.rmp) → HoldsNone actor stock
-    → taken ≡ record { frame = frame; base = frame; count = 512 } → shown ≡ record { deed = deeds.Lock taken.frame; outcome = None; lock = Some taken }
+    → taken ≡ record { frame = frame; base = frame; count = 512 } → shown ≡ record { deed = deeds.Lock taken.frame; outcome = None; lock = Some (OfPage taken) }
     → holders_of new_stock.bays ≡ relocked actor (locks_by shown nothing_taken) (holders_of stock.bays)
 lock_taken stock new_stock frames actor frame region old new taken shown found is passes locked none taken_is shown_is =
     let first = smash_first frames frame found.fine in
@@ -189,20 +190,20 @@ smash_lock_is frames guests frame lock stock tested =
 
 -- the move of its lock
 pub lock_moves : (frames : ℕ) (guests : List GuestSpec) (frame : ℕ) (part : ActorPart) (old new : Stock) (shown : Shown) → part.standing ≡ nothing_taken
-    → shown ≡ lock_shown (page_lock (pages_of old.bays frame).facts.size frame) (smash_refused frames frame old) → pages_of new.bays ≡ pages_of old.bays
+    → shown ≡ lock_shown (page_lock (pages_of old.bays frame).facts.size frame) (smash_refused frames frame old) → pages_of new.bays ≡ pages_of old.bays → new.contexts ≡ old.contexts
     → smash_move frames (view_on old guests) part frame part.standing.locks ≡ move_by shown (view_on new guests) (standing_by shown part.standing)
 unfolding smash_move
-lock_moves frames guests frame part old new shown none shown_is same =
+lock_moves frames guests frame part old new shown none shown_is same contexts =
     let lock = page_lock (pages_of old.bays frame).facts.size frame in
     ap (λ (s : Standing). smash_move frames (view_on old guests) part frame s.locks) none
     ∙ lock_shows (view_on old guests) part lock (smash_refused frames frame old)
-    ∙ quiet_shows guests part old new (lock_shown lock (smash_refused frames frame old)) shown shown_is same
+    ∙ quiet_shows guests part old new (lock_shown lock (smash_refused frames frame old)) shown shown_is same contexts
 
 -- and of its commit
 pub commit_moves : (frames : ℕ) (guests : List GuestSpec) (frame : ℕ) (part : ActorPart) (lock : PageLock) (old new : Stock) (shown : Shown) → part.standing.locks ≡ lock ∷ [] → lock ≡ page_lock Large frame
-    → shown ≡ record { deed = deeds.Commit frame (pages_of old.bays frame).facts.gpn Large; outcome = Some (outcomes.Status 0); lock = None } → pages_of new.bays ≡ pages_smashed (page_lock Large frame) (pages_of old.bays)
+    → shown ≡ record { deed = deeds.Commit frame (pages_of old.bays frame).facts.gpn Large; outcome = Some (outcomes.Status 0); lock = None } → pages_of new.bays ≡ pages_smashed (page_lock Large frame) (pages_of old.bays) → new.contexts ≡ old.contexts
     → smash_move frames (view_on old guests) part frame part.standing.locks ≡ move_by shown (view_on new guests) (standing_by shown part.standing)
 unfolding smash_move
-commit_moves frames guests frame part lock old new shown are lock_is shown_is pages_are =
+commit_moves frames guests frame part lock old new shown are lock_is shown_is pages_are contexts =
     ap (smash_move frames (view_on old guests) part frame) (are ∙ ap (λ (l : PageLock). l ∷ []) lock_is)
-    ∙ committed (contents_of old guests) part (deeds.Commit frame (pages_of old.bays frame).facts.gpn Large) (outcomes.Status 0) (pages_smashed (page_lock Large frame) (pages_of old.bays)) guests new shown shown_is pages_are refl
+    ∙ committed old part (deeds.Commit frame (pages_of old.bays frame).facts.gpn Large) (outcomes.Status 0) (pages_smashed (page_lock Large frame) (pages_of old.bays)) guests new shown shown_is pages_are contexts

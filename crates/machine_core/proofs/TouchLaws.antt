@@ -1,5 +1,5 @@
 -- Which regions an event needs.
-use Rattle.std.proofs.Common.{◌≡◌, ◌⊎◌, inl, inr, ⊎_elim, ℕ, ◌+◌, ◌-◌, ◌*◌, ◌/◌, ◌%◌, ◌<◌, ◌≤◌, Bool, true, false, ◌||◌, eqb, List, [], ◌∷◌, ◌++◌, length, None, refl, sym, ap, ◌∙◌, subst, arith}
+use Rattle.std.proofs.Common.{◌≡◌, ◌⊎◌, inl, inr, ⊎_elim, ℕ, ◌+◌, ◌-◌, ◌*◌, ◌/◌, ◌%◌, ◌<◌, ◌≤◌, Bool, true, false, ◌||◌, eqb, List, [], ◌∷◌, ◌++◌, length, None, refl, sym, ap, ◌∙◌, subst, arith, IsSome}
 use Rattle.std.specs.List.{list_any, range_with_len}
 use Rattle.std.proofs.lemmas.Bool.{true≢false}
 use Rattle.std.proofs.lemmas.Bool.Decides.{nat_tests}
@@ -26,6 +26,7 @@ use Rattle.snp_model.specs.Facts.{frames_in}
 use Rattle.snp_model.specs.HeldLocks.{AreInstructionLocks, AreItemLocks, IsOneLock, IsSmashLock, IsUpdateLock, IsWalkedLock, PageTest, adjust_test, validate_test}
 use Rattle.snp_model.specs.InstructionStep.{facts_of, page_lookup}
 use Rattle.snp_model.specs.KeptLocks.{IsTestedAt}
+use Rattle.snp_model.specs.HeldContexts.{HeldContext}
 use Rattle.snp_model.specs.Locks.{page_lock, range_lock}
 use Rattle.snp_model.specs.NestedWalk.{after_word, first_read, walk_from}
 use Rattle.snp_model.specs.Ready.{IsReady}
@@ -38,14 +39,26 @@ use Rattle.snp_model.proofs.ReadyLaws.{ready_line}
 use Rattle.snp_model.proofs.TestedLaws.{smash_passes, update_passes}
 use Rattle.machine_core.specs.declared.bay.Bay.{Bay}
 use Rattle.machine_core.specs.Bays.{HasAll, HasFrame, HasTouched, Stock, own_stock}
-use Rattle.machine_core.specs.OwnLaws.{within_some}
+use Rattle.machine_core.specs.OwnLaws.{within_guest, within_some}
+use Rattle.machine_core.proofs.DeclaredLaws.{item_declared}
+use Rattle.machine_core.proofs.FirmwareTouchLaws.{firmware_among}
 use Rattle.machine_core.proofs.PageLaws.{base_region}
 use Rattle.machine_core.proofs.SmashLaws.{is_large_size, page_base, smash_below, smash_first}
 use Rattle.machine_core.proofs.UpdateLaws.{update_below, update_fits}
 
 -- a frame that is touched has its region
 pub frame_has : (frame : ℕ) (stock : Stock) → HasTouched (frame_touched frame) stock → HasFrame stock frame
-frame_has frame stock has = has frame (grind (arith, nat_tests))
+frame_has frame stock has = has.bays frame (grind (arith, nat_tests))
+
+-- so has the guest whose context is touched
+pub context_has : (guest : ℕ) (stock : Stock) → HasTouched (context_touched guest) stock → IsSome (stock.contexts guest)
+context_has guest stock has = has.contexts guest refl
+
+-- before an item has begun, it touches the context of its guest
+pub begin_has : (frames : ℕ) (cpu : Processor) (lookup : Lookup) (made : List Deed) (stock : Stock) → length made ≡ 0 → HasTouched (walk_touches frames cpu lookup made) stock → IsSome (stock.contexts cpu.guest)
+unfolding walk_touches
+begin_has frames cpu lookup [] stock none has = has.contexts cpu.guest refl
+begin_has frames cpu lookup (deed ∷ deeds) stock none has = cc
 
 -- so has the frame of a word that an item needs
 pub nested_has : (frame index : ℕ) (need : Need) (stock : Stock) → need ≡ needs.Nested frame index → HasTouched (need_touches need) stock → HasFrame stock frame
@@ -255,12 +268,20 @@ item_among regions guests contents part Firmware (items.Pvalidate address size v
 item_among regions guests contents part Firmware (items.Rmpadjust address size target mask vmsa) is_role is_item tested = none_among regions nothing_touched refl
 item_among regions guests contents part Firmware (items.Rmpupdate update) is_role is_item tested = none_among regions nothing_touched refl
 item_among regions guests contents part Firmware (items.Psmash frame) is_role is_item tested = none_among regions nothing_touched refl
-item_among regions guests contents part Firmware (items.Firmware command) is_role is_item tested = absurd is_item
+item_among regions guests contents part Firmware (items.Firmware command) is_role is_item tested = firmware_among regions guests contents command part.standing tested
 item_among regions guests contents part Firmware (items.Skip count test) is_role is_item tested = none_among regions nothing_touched refl
 
--- all that a ready actor's next event touches is there, where all regions are
-pub own_has : (bays : List Bay) (guests : List GuestSpec) (contents : Contents) (part : ActorPart) → IsReady (512 * length bays) guests part → part.item < length part.script → IsTestedAt (512 * length bays) guests contents part
-    → HasAll (512 * length bays) guests part (own_stock bays)
-own_has bays guests contents part ready unfinished tested frame touches =
+-- all that a ready actor's next event touches is there, where all regions and all declared guests are
+pub own_has : (bays : List Bay) (contexts : List HeldContext) (guests : List GuestSpec) (contents : Contents) (part : ActorPart) → length contexts ≡ length guests → IsReady (512 * length bays) guests part → part.item < length part.script
+    → IsTestedAt (512 * length bays) guests contents part → HasAll (512 * length bays) guests part (own_stock bays contexts)
+own_has bays contexts guests contents part all ready unfinished tested =
     let line = ready_line (512 * length bays) guests part ready unfinished in
-    within_some bays (region_of frame) (item_among (length bays) guests contents part part.role (line_at part.script part.item).item ready.role line.item tested frame touches)
+    let item = (line_at part.script part.item).item in
+    record {
+      bays = λ frame touches. within_some bays (region_of frame) (item_among (length bays) guests contents part part.role item ready.role line.item tested frame touches);
+      contexts = λ guest touches.
+          let declared = item_declared (512 * length bays) guests contents part part.role item ready.role line.item tested guest touches in
+          let some = declared.some in
+          let most = declared.most in
+          within_guest contexts guest some (omega arith);
+    }

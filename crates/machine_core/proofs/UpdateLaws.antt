@@ -149,19 +149,19 @@ update_tested frames guests update lock stock few tested =
 
 -- the move of its lock
 pub lock_moves : (frames : ℕ) (guests : List GuestSpec) (update : Update) (part : ActorPart) (old new : Stock) (shown : Shown) → part.standing ≡ nothing_taken → shown ≡ lock_shown (update_lock update) (update_refused frames update old)
-    → pages_of new.bays ≡ pages_of old.bays
+    → pages_of new.bays ≡ pages_of old.bays → new.contexts ≡ old.contexts
     → update_move frames (view_on old guests) part update part.standing.locks ≡ move_by shown (view_on new guests) (standing_by shown part.standing)
 unfolding update_move
-lock_moves frames guests update part old new shown none shown_is same =
+lock_moves frames guests update part old new shown none shown_is same contexts =
     ap (λ (s : Standing). update_move frames (view_on old guests) part update s.locks) none
     ∙ lock_shows (view_on old guests) part (update_lock update) (update_refused frames update old)
-    ∙ quiet_shows guests part old new (lock_shown (update_lock update) (update_refused frames update old)) shown shown_is same
+    ∙ quiet_shows guests part old new (lock_shown (update_lock update) (update_refused frames update old)) shown shown_is same contexts
 
 -- and of its commit
 pub commit_moves : (frames : ℕ) (guests : List GuestSpec) (update : Update) (part : ActorPart) (lock : PageLock) (old new : Stock) (shown : Shown) → part.standing.locks ≡ lock ∷ [] → lock ≡ update_lock update
-    → shown ≡ record { deed = deeds.Commit update.frame update.gpn update.size; outcome = Some (outcomes.Status 0); lock = None } → pages_of new.bays ≡ pages_updated update (update_lock update) (pages_of old.bays)
+    → shown ≡ record { deed = deeds.Commit update.frame update.gpn update.size; outcome = Some (outcomes.Status 0); lock = None } → pages_of new.bays ≡ pages_updated update (update_lock update) (pages_of old.bays) → new.contexts ≡ old.contexts
     → update_move frames (view_on old guests) part update part.standing.locks ≡ move_by shown (view_on new guests) (standing_by shown part.standing)
 unfolding update_move
-commit_moves frames guests update part lock old new shown are lock_is shown_is pages_are =
+commit_moves frames guests update part lock old new shown are lock_is shown_is pages_are contexts =
     ap (update_move frames (view_on old guests) part update) (are ∙ ap (λ (l : PageLock). l ∷ []) lock_is)
-    ∙ committed (contents_of old guests) part (deeds.Commit update.frame update.gpn update.size) (outcomes.Status 0) (pages_updated update (update_lock update) (pages_of old.bays)) guests new shown shown_is pages_are refl
+    ∙ committed old part (deeds.Commit update.frame update.gpn update.size) (outcomes.Status 0) (pages_updated update (update_lock update) (pages_of old.bays)) guests new shown shown_is pages_are contexts

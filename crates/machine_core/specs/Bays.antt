@@ -1,12 +1,13 @@
--- What the machine keeps of memory: bays by region, which are lent to events, and what an event sees over them (this project's own).
-use Rattle.std.specs.Prelude.{◌≡◌, ℕ, ◌/◌, ◌%◌, ◌==◌, true, if◌then◌else◌, List, replicate, slice_get, slice_index_or, Option, Some, None, IsSome}
+-- What the machine keeps of memory and of guests: bays by region and contexts by guest, which are lent to events, and what an event sees over them (this project's own).
+use Rattle.std.specs.Prelude.{◌≡◌, ℕ, ◌-◌, ◌/◌, ◌%◌, ◌==◌, true, if◌then◌else◌, List, replicate, slice_get, slice_index_or, Option, Some, None, IsSome}
 use Rattle.snp_model.specs.declared.entry.RmpEntry.{RmpEntry}
 use Rattle.snp_model.specs.declared.scenario.GuestSpec.{GuestSpec}
 use Rattle.snp_model.specs.Entries.{facts_at}
 use Rattle.snp_model.specs.Facts.{free_entry}
+use Rattle.snp_model.specs.HeldContexts.{HeldContext}
 use Rattle.snp_model.specs.Opening.{opening_contexts}
 use Rattle.snp_model.specs.RegionWords.{page_at}
-use Rattle.snp_model.specs.State.{Page, Pages, Contents, ActorPart, View, zero_words}
+use Rattle.snp_model.specs.State.{Page, Pages, Context, Contexts, Contents, ActorPart, View, zero_words}
 use Rattle.snp_model.specs.Touches.{Touched, region_of, touches, touches_frame}
 use Rattle.machine_core.specs.declared.bay.Bay.{Bay}
 
@@ -44,21 +45,56 @@ own_bays bays region = slice_get bays region
 abbrev pub put : ℕ → Bay → Bays → Bays
 put region bay bays r = if region == r then Some bay else bays r
 
--- all that parts can lend: the bays of regions
+-- contexts by guest, with their locks; a guest's may be absent
+abbrev pub GuestContexts : Type 0
+GuestContexts = ℕ → Option HeldContext
+
+-- the context of a guest, where there is one, and else that which stands for it
+abbrev pub context_in : Option HeldContext → Context → Context
+context_in None context = context
+context_in (Some held) context = held.context
+
+-- contexts by guest; where there is none, that of the opening stands for it: of a guest that isn't declared
+unfoldable pub contexts_of : GuestContexts → List GuestSpec → Contexts
+contexts_of contexts guests guest = context_in (contexts guest) (opening_contexts guests guest)
+
+-- the holder of the lock of a guest's context
+abbrev pub context_holder_in : Option HeldContext → Option ℕ
+context_holder_in None = None
+context_holder_in (Some held) = held.holder
+
+-- the holders of the locks of contexts by guest
+unfoldable pub context_holders_of : GuestContexts → ℕ → Option ℕ
+context_holders_of contexts guest = context_holder_in (contexts guest)
+
+-- the contexts of a list, whose guests are numbered from 1
+abbrev pub own_contexts : List HeldContext → GuestContexts
+own_contexts contexts guest = if guest == 0 then None else slice_get contexts (guest - 1)
+
+-- contexts with this one as that of a guest
+abbrev pub put_context : ℕ → HeldContext → GuestContexts → GuestContexts
+put_context guest held contexts g = if guest == g then Some held else contexts g
+
+-- all that parts can lend: the bays of regions, and the contexts of guests
 pub record Stock : Type 0 where
   pub bays : Bays
+  pub contexts : GuestContexts
 
 -- a stock with this one as the bay of a region
 abbrev pub stock_with : ℕ → Bay → Stock → Stock
 stock_with region bay stock = record stock { bays = put region bay stock.bays }
 
--- that of a list of bays
-abbrev pub own_stock : List Bay → Stock
-own_stock bays = record { bays = own_bays bays }
+-- a stock with this one as the context of a guest
+abbrev pub stock_with_context : ℕ → HeldContext → Stock → Stock
+stock_with_context guest held stock = record stock { contexts = put_context guest held stock.contexts }
 
--- memory with the guests' contexts, which are those of the opening, since no event changes them yet
+-- that of a list of bays and a list of contexts
+abbrev pub own_stock : List Bay → List HeldContext → Stock
+own_stock bays contexts = record { bays = own_bays bays; contexts = own_contexts contexts }
+
+-- memory and contexts, with these declared guests
 abbrev pub contents_of : Stock → List GuestSpec → Contents
-contents_of stock guests = record { pages = pages_of stock.bays; contexts = opening_contexts guests }
+contents_of stock guests = record { pages = pages_of stock.bays; contexts = contexts_of stock.contexts guests }
 
 -- locks, by their holders
 pub record Locks : Type 0 where
@@ -69,9 +105,9 @@ pub record Locks : Type 0 where
 abbrev pub no_locks : Locks
 no_locks = record { holder = λ _. None; context_holder = λ _. None }
 
--- the locks of a stock; no event locks a context yet
+-- the locks of a stock
 abbrev pub locks_of : Stock → Locks
-locks_of stock = record { holder = holders_of stock.bays; context_holder = λ _. None }
+locks_of stock = record { holder = holders_of stock.bays; context_holder = context_holders_of stock.contexts }
 
 -- what an event sees over a stock, with these declared guests
 abbrev pub view_on : Stock → List GuestSpec → View
@@ -97,8 +133,9 @@ pub record IsWholeRegion (stock : Stock) (frame : ℕ) (entry : RmpEntry) : Type
   pub one_holder : (f : ℕ) → f / 512 ≡ frame / 512 → (locks_of stock).holder f ≡ (locks_of stock).holder frame
 
 -- all that is touched is there
-abbrev pub HasTouched : Touched → Stock → Type 0
-HasTouched touched stock = (frame : ℕ) → touches_frame touched frame ≡ true → IsSome (stock.bays (region_of frame))
+pub record HasTouched (touched : Touched) (stock : Stock) : Type 0 where
+  pub bays : (frame : ℕ) → touches_frame touched frame ≡ true → IsSome (stock.bays (region_of frame))
+  pub contexts : (guest : ℕ) → touched.context ≡ Some guest → IsSome (stock.contexts guest)
 
 -- all that an actor's next event touches is there
 abbrev pub HasAll : ℕ → List GuestSpec → ActorPart → Stock → Type 0

@@ -13,7 +13,8 @@ use Rattle.snp_model.specs.Walking.{Processor}
 use Rattle.machine_core.specs.declared.cpu.Arrived.{Arrived}
 use Rattle.machine_core.specs.declared.cpu.Processor as cpus
 use Rattle.machine_core.specs.declared.shown.Shown.{Shown}
-use Rattle.machine_core.specs.declared.taken_lock.TakenLock.{TakenLock}
+use Rattle.machine_core.specs.declared.taken_lock.Taken.{Taken}
+use Rattle.machine_core.specs.declared.taken_lock.Taken.TheVariants.{OfContext, OfPage}
 use Rattle.machine_core.specs.Actors.{page_lock_of}
 
 -- the move that an event shows, if it leaves this view, and the open attempt with this
@@ -21,9 +22,16 @@ abbrev pub move_by : Shown → View → Standing → Move
 move_by shown after standing = record { deed = shown.deed; outcome = shown.outcome; contents = after.contents; standing = standing }
 
 -- what an open attempt has once a lock was taken, if one was
-abbrev pub with_taken : Option TakenLock → Standing → Standing
+abbrev pub with_taken : Option Taken → Standing → Standing
 with_taken None standing = standing
-with_taken (Some taken) standing = record standing { locks = standing.locks ++ page_lock_of taken ∷ [] }
+with_taken (Some (OfPage taken)) standing = record standing { locks = standing.locks ++ page_lock_of taken ∷ [] }
+with_taken (Some (OfContext guest)) standing = record standing { context_lock = Some guest }
+
+-- an event has locked no context
+abbrev pub TakesNoContext : Option Taken → Type 0
+TakesNoContext None = Unit {0}
+TakesNoContext (Some (OfPage taken)) = Unit {0}
+TakesNoContext (Some (OfContext guest)) = ⊥
 
 -- what an open attempt has after what an event shows, where it stays open
 abbrev pub standing_by : Shown → Standing → Standing
@@ -38,9 +46,18 @@ locks_left (Some outcome) locks = []
 abbrev pub locks_by : Shown → Standing → List PageLock
 locks_by shown standing = locks_left shown.outcome (standing_by shown standing).locks
 
+-- the context that is left locked once an attempt has ended so, or not: its end releases it
+abbrev pub context_left : Option Outcome → Option ℕ → Option ℕ
+context_left None context_lock = context_lock
+context_left (Some outcome) context_lock = None
+
+-- the guest whose context an actor has locked after what an event shows
+abbrev pub context_by : Shown → Standing → Option ℕ
+context_by shown standing = context_left shown.outcome (standing_by shown standing).context_lock
+
 -- what an event shows that asks for a lock
 abbrev pub lock_shown : PageLock → Option Refusal → Shown
-lock_shown lock None = record { deed = Lock lock.frame; outcome = None; lock = Some (record { frame = lock.frame; base = lock.base; count = lock.count }) }
+lock_shown lock None = record { deed = Lock lock.frame; outcome = None; lock = Some (OfPage (record { frame = lock.frame; base = lock.base; count = lock.count })) }
 lock_shown lock (Some refusal) = record { deed = Lock lock.frame; outcome = Some (refused_outcome refusal); lock = None }
 
 -- a processor as the model sees it

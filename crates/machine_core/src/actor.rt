@@ -1,16 +1,16 @@
-ghost use Rattle.std.specs.Prelude.{◌≡◌, ◌++◌, ◌∷◌, [], ◌+◌, ◌<◌, ◌≤◌, ◌^◌, ◌==◌, nat_le, nat_lt, length, None, IfOk, IsNone, IsSome};
+ghost use Rattle.std.specs.Prelude.{◌≡◌, ◌++◌, ◌∷◌, [], ◌+◌, ◌<◌, ◌≤◌, ◌^◌, ◌==◌, nat_le, nat_lt, length, map, None, IfOk, IsNone, IsSome};
 ghost use Rattle.snp_model.specs.Opening.{opening_part};
 ghost use Rattle.snp_model.specs.Step.{line_at, passed_over, tries_again, last_after, part_after};
 ghost use Rattle.snp_model.specs.declared.event.Event.{Event};
 ghost use Rattle.snp_model.specs.State.{View};
 ghost use Rattle.snp_model.specs.Walking.{guest_words, nested_words};
 ghost use Rattle.snp_model.specs.Bounds.{IsGuestInside};
-ghost use Rattle.machine_core.specs.Actors.{IsBegun, is_nested_read};
-ghost use Rattle.machine_core.specs.Moves.{locks_by, move_by, standing_by, with_taken};
+ghost use Rattle.machine_core.specs.Actors.{IsBegun, is_nested_read, page_lock_of};
+ghost use Rattle.machine_core.specs.Moves.{context_by, locks_by, move_by, standing_by, with_taken};
 ghost use Rattle.machine_core.specs.Walks.{IsPagingRole, stands_of};
 
 use crate::shown::Shown;
-use crate::taken_lock::TakenLock;
+use crate::taken_lock::{Taken, TakenLock};
 use crate::walk_words::WalkWords;
 use crate::walking::{item_stands, no_walk};
 use arrayvec::ArrayVec;
@@ -31,6 +31,8 @@ pub struct ActorState {
     stands: GuestEnd,
     // The locks that the open attempt has taken, the oldest first.
     locks: ArrayVec<TakenLock, 3>,
+    // The guest whose context it has locked.
+    context_lock: Option<u8>,
     last: Option<Outcome>,
 }
 
@@ -41,7 +43,7 @@ impl Model for ActorState {
 
     ghost Value = { ActorPart };
 
-    ghost view = { λ a. record { role = a.role; script = a.script; item = a.item; attempt = a.attempt; deeds = a.deeds.items; standing = record { locks = map page_lock_of a.locks.items; context_lock = None; computed = None }; last = a.last } };
+    ghost view = { λ a. record { role = a.role; script = a.script; item = a.item; attempt = a.attempt; deeds = a.deeds.items; standing = record { locks = map page_lock_of a.locks.items; context_lock = a.context_lock; computed = None }; last = a.last } };
 
     ghost invariant = { λ a. IsActorState a.role a.script a.item a.deeds.items a.words.guest.items a.words.nested.items a.stands };
 }
@@ -61,6 +63,7 @@ impl ActorState {
             words: WalkWords::new(),
             stands: no_walk(),
             locks: ArrayVec::new(),
+            context_lock: None,
             last: None,
         })
     }
@@ -107,6 +110,28 @@ impl ActorState {
         ensures { result ≡ nat_lt 0 (length self.now.standing.locks) }
     {
         !self.locks.is_empty()
+    }
+
+    /// How many locks of pages the open attempt has taken, at most 3.
+    #[tactic(auto, using(crate::proofs::ActorLaws::as_many_locks))]
+    pub fn locks_taken(&self) -> usize
+        ensures { result ≡ length self.now.standing.locks }
+    {
+        self.locks.len()
+    }
+
+    /// The locks of pages that the open attempt has taken, the oldest first.
+    pub fn locks(&self) -> &[TakenLock]
+        ensures { map page_lock_of result.now ≡ self.now.standing.locks }
+    {
+        self.locks.as_slice()
+    }
+
+    /// The guest whose context the open attempt has locked.
+    pub fn context_lock(&self) -> Option<u8>
+        ensures { result ≡ self.now.standing.context_lock }
+    {
+        self.context_lock
     }
 
     /// The last outcome that isn't of a skip.
@@ -157,13 +182,14 @@ impl ActorState {
 
     // The lock of the open attempt that an event has taken, if it has.
     #[tactic(auto, using(crate::proofs::ActorLaws::as_many_locks, crate::proofs::ActorLaws::locks_push))]
-    fn take(&mut self, lock: Option<TakenLock>)
+    fn take(&mut self, lock: Option<Taken>)
         requires { IsSome lock → length self.old.standing.locks < 3 }
         ensures { self.new ≡ record self.old { standing = with_taken lock self.old.standing } }
     {
         match lock {
             None => {}
-            Some(lock) => self.locks.push(lock),
+            Some(Taken::OfPage(lock)) => self.locks.push(lock),
+            Some(Taken::OfContext(guest)) => self.context_lock = Some(guest),
         }
     }
 
@@ -177,6 +203,7 @@ impl ActorState {
         ensures event { result ≡ record { item = self.old.item; attempt = self.old.attempt; deed = shown.now.deed; outcome = shown.now.outcome } }
         ensures part { (after : View) → self.new ≡ part_after self.old (move_by shown.now after (standing_by shown.now self.old.standing)) shown.now.outcome }
         ensures locks { self.new.standing.locks ≡ locks_by shown.now self.old.standing }
+        ensures context { self.new.standing.context_lock ≡ context_by shown.now self.old.standing }
     {
         let item = self.item as u32;
         let attempt = self.attempt;
@@ -202,6 +229,7 @@ impl ActorState {
                 self.deeds.clear();
                 self.words.clear();
                 self.locks.clear();
+                self.context_lock = None;
                 self.last = last_after(self.last, outcome);
                 Event {
                     item,

@@ -3,16 +3,18 @@ ghost use Rattle.std.specs.List.{AllByRecursion};
 ghost use Rattle.snp_model.specs.declared.entry.PageSize.TheVariants.{Small};
 ghost use Rattle.snp_model.specs.Entries.{facts_within};
 ghost use Rattle.snp_model.specs.Facts.{free_entry};
+ghost use Rattle.snp_model.specs.HeldContexts.{opening_held};
 ghost use Rattle.snp_model.specs.Opening.{opening_part, page_facts, facts_from, words_from};
 ghost use Rattle.snp_model.specs.Sound.{FramesDiffer, IsPage, IsWord, Pairwise};
 ghost use Rattle.snp_model.specs.State.{zero_words};
-ghost use Rattle.machine_core.specs.Bays.{facts_of, free_bay, locks_of, no_locks, own_bays, own_stock, words_of};
+ghost use Rattle.machine_core.specs.Bays.{facts_of, free_bay, locks_of, no_locks, own_bays, own_contexts, own_stock, words_of};
 
 use crate::actor::ActorState;
 use crate::bay::Bay;
 use crate::changes::{set_entry, set_word};
 use crate::cpu::asid_of;
 use crate::parts::OwnParts;
+use guest_context::GuestContext;
 use snp_model::{Actor, GuestSpec, Kind, PageSpec, RmpEntry, WordSpec};
 use std::alloc::{AllocError, Global};
 
@@ -49,15 +51,28 @@ fn free_bays(alloc: Global, regions: u32) -> Result<Vec<Bay>, AllocError>
     Ok(bays)
 }
 
-/// Memory of so many regions, free and zero.
-pub fn free_parts(alloc: Global, regions: u32) -> Result<OwnParts, AllocError>
+// The contexts of guests at the opening.
+fn first_contexts(alloc: Global, guests: &[GuestSpec]) -> Result<Vec<GuestContext>, AllocError>
+    ensures { IfOk result (λ contexts. contexts.items ≡ map opening_held guests.now) }
+{
+    let mut contexts = Vec::new(alloc);
+    'guests: for guest in guests {
+        contexts.push(GuestContext::from_spec(guest))?;
+    }
+    Ok(contexts)
+}
+
+/// Memory of so many regions, free and zero, and the contexts of guests at the opening.
+pub fn free_parts(alloc: Global, regions: u32, guests: &[GuestSpec]) -> Result<OwnParts, AllocError>
     ensures facts { IfOk result (λ parts. facts_of (own_bays parts.bays.items) ≡ (λ f. free_entry)) }
     ensures words { IfOk result (λ parts. words_of (own_bays parts.bays.items) ≡ (λ f. zero_words)) }
-    ensures locks { IfOk result (λ parts. locks_of (own_stock parts.bays.items) ≡ no_locks) }
+    ensures locks { IfOk result (λ parts. locks_of (own_stock parts.bays.items parts.contexts.items) ≡ no_locks) }
     ensures regions { IfOk result (λ parts. length parts.bays.items ≡ regions) }
+    ensures contexts { IfOk result (λ parts. parts.contexts.items ≡ map opening_held guests.now) }
 {
     Ok(OwnParts {
         bays: free_bays(alloc, regions)?,
+        contexts: first_contexts(alloc, guests)?,
     })
 }
 
@@ -67,11 +82,13 @@ pub fn set_pages(parts: &mut OwnParts, guests: &[GuestSpec], pages: &[PageSpec])
     requires pages { AllByRecursion (IsPage (512 * length parts.old.bays.items) (length guests.now)) pages.now }
     requires apart { Pairwise FramesDiffer pages.now }
     requires small { (f : ℕ) → (facts_of (own_bays parts.old.bays.items) f).size ≡ Small }
-    requires unlocked { locks_of (own_stock parts.old.bays.items) ≡ no_locks }
+    requires unlocked { locks_of (own_stock parts.old.bays.items parts.old.contexts.items) ≡ no_locks }
     ensures facts { facts_of (own_bays parts.new.bays.items) ≡ facts_from guests.now (facts_of (own_bays parts.old.bays.items)) pages.now }
     ensures words { words_of (own_bays parts.new.bays.items) ≡ words_of (own_bays parts.old.bays.items) }
-    ensures locks { locks_of (own_stock parts.new.bays.items) ≡ locks_of (own_stock parts.old.bays.items) }
+    ensures locks { locks_of (own_stock parts.new.bays.items parts.new.contexts.items) ≡ locks_of (own_stock parts.old.bays.items parts.old.contexts.items) }
     ensures regions { length parts.new.bays.items ≡ length parts.old.bays.items }
+    ensures contexts { own_contexts parts.new.contexts.items ≡ own_contexts parts.old.contexts.items }
+    ensures guests { length parts.new.contexts.items ≡ length parts.old.contexts.items }
 {
     'pages: for page in pages {
         set_entry(parts, page.frame, page_entry(guests, page));
@@ -84,8 +101,10 @@ pub fn set_words(parts: &mut OwnParts, words: &[WordSpec])
     requires { AllByRecursion (IsWord (512 * length parts.old.bays.items)) words.now }
     ensures words { words_of (own_bays parts.new.bays.items) ≡ words_from (words_of (own_bays parts.old.bays.items)) words.now }
     ensures facts { facts_of (own_bays parts.new.bays.items) ≡ facts_of (own_bays parts.old.bays.items) }
-    ensures locks { locks_of (own_stock parts.new.bays.items) ≡ locks_of (own_stock parts.old.bays.items) }
+    ensures locks { locks_of (own_stock parts.new.bays.items parts.new.contexts.items) ≡ locks_of (own_stock parts.old.bays.items parts.old.contexts.items) }
     ensures regions { length parts.new.bays.items ≡ length parts.old.bays.items }
+    ensures contexts { own_contexts parts.new.contexts.items ≡ own_contexts parts.old.contexts.items }
+    ensures guests { length parts.new.contexts.items ≡ length parts.old.contexts.items }
 {
     'words: for word in words {
         set_word(parts, word.frame, word.index, word.value);

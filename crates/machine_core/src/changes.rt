@@ -23,6 +23,7 @@ pub fn guest_access<P: Parts>(parts: &mut P, frame: u32, at: &Place, op: &Op) ->
         access_move before.contents part deed (guest_verdict (before.contents.pages frame).facts at.now op.now) op.now frame at.now.index
         ≡ move_by (record { deed = deed; outcome = Some result; lock = None }) (view_on (P.stock parts.new) guests) part.standing }
     ensures locks { locks_of (P.stock parts.new) ≡ locks_of (P.stock parts.old) }
+    ensures contexts { (P.stock parts.new).contexts ≡ (P.stock parts.old).contexts }
     ensures kept { P.kept parts.old parts.new }
 {
     let bay = parts.bay_mut(frame / 512);
@@ -37,6 +38,7 @@ pub fn host_access<P: Parts>(parts: &mut P, frame: u32, index: u16, op: &Op) -> 
         access_move before.contents part deed (host_verdict (before.contents.pages frame).facts op.now) op.now frame index
         ≡ move_by (record { deed = deed; outcome = Some result; lock = None }) (view_on (P.stock parts.new) guests) part.standing }
     ensures locks { locks_of (P.stock parts.new) ≡ locks_of (P.stock parts.old) }
+    ensures contexts { (P.stock parts.new).contexts ≡ (P.stock parts.old).contexts }
     ensures kept { P.kept parts.old parts.new }
 {
     let bay = parts.bay_mut(frame / 512);
@@ -51,6 +53,7 @@ pub fn set_word<P: Parts>(parts: &mut P, frame: u32, index: u16, value: u64)
     ensures words { words_of (P.stock parts.new).bays ≡ with_word_spec (record { frame = frame; index = index; value = value }) (words_of (P.stock parts.old).bays) }
     ensures facts { facts_of (P.stock parts.new).bays ≡ facts_of (P.stock parts.old).bays }
     ensures locks { locks_of (P.stock parts.new) ≡ locks_of (P.stock parts.old) }
+    ensures contexts { (P.stock parts.new).contexts ≡ (P.stock parts.old).contexts }
     ensures kept { P.kept parts.old parts.new }
 {
     let bay = parts.bay_mut(frame / 512);
@@ -67,6 +70,7 @@ pub fn set_entry<P: Parts>(parts: &mut P, frame: u32, entry: RmpEntry)
     ensures facts { facts_of (P.stock parts.new).bays ≡ with_entry frame entry (facts_of (P.stock parts.old).bays) }
     ensures words { words_of (P.stock parts.new).bays ≡ words_of (P.stock parts.old).bays }
     ensures locks { locks_of (P.stock parts.new) ≡ locks_of (P.stock parts.old) }
+    ensures contexts { (P.stock parts.new).contexts ≡ (P.stock parts.old).contexts }
     ensures kept { P.kept parts.old parts.new }
 {
     let bay = parts.bay_mut(frame / 512);

@@ -6,14 +6,14 @@ ghost use Rattle.snp_model.specs.Accesses.{IsPlace, guest_verdict};
 ghost use Rattle.snp_model.specs.Bounds.{IsCpu, IsGuestInside, IsPaging};
 ghost use Rattle.snp_model.specs.GuestWalk.{levels_of};
 ghost use Rattle.snp_model.specs.Moves.{Arrival, is_running, table_place, table_word, begin_move, walked_move};
-ghost use Rattle.snp_model.specs.Opening.{asid_of, opening_contexts};
+ghost use Rattle.snp_model.specs.Opening.{asid_of};
 ghost use Rattle.snp_model.specs.State.{ActorPart, View, word_of};
 ghost use Rattle.snp_model.specs.Step.{data_place, access_move, data_move};
 ghost use Rattle.snp_model.specs.Touches.{walk_touches};
 ghost use Rattle.snp_model.specs.Verdicts.{private_verdict};
 ghost use Rattle.snp_model.specs.Walking.{index_of, guest_words, nested_words, guest_stands, walk_need, need_after, fault_of};
 ghost use Rattle.machine_core.specs.Actors.{IsBegun};
-ghost use Rattle.machine_core.specs.Bays.{HasFrame, HasTouched, locks_of, pages_of, view_on};
+ghost use Rattle.machine_core.specs.Bays.{HasFrame, HasTouched, contexts_of, locks_of, pages_of, view_on};
 ghost use Rattle.machine_core.specs.Moves.{move_by, processor_of, table_load, table_shown, walk_shows};
 ghost use Rattle.machine_core.specs.Walks.{IsReading, arrived_at};
 
@@ -24,7 +24,9 @@ use crate::reads::{guest_table_word, table_word};
 use crate::shown::Shown;
 use crate::walking::{fault_by_nested, fault_by_table, levels_of, walk_need};
 use guest_walk::is_canonical;
-use snp_model::{Deed, GuestEnd, GuestSpec, Lookup, Need, Op, Outcome, PageSize, Paging, Place};
+use snp_model::{
+    Deed, GuestEnd, GuestSpec, GuestState, Lookup, Need, Op, Outcome, PageSize, Paging, Place,
+};
 
 /// A guest's processor: its guest, from 1, its VMPL, the frame of its first nested table, and its guest tables.
 #[derive(Clone, Copy)]
@@ -53,15 +55,10 @@ pub struct Arrived {
 }
 
 // Whether a guest runs.
-#[tactic(auto, unfolding(snp_model::specs::Opening::opening_context))]
-fn is_running(guests: &[GuestSpec], guest: u8) -> bool
-    requires { 0 < guest }
-    ensures { result ≡ is_running (opening_contexts guests.now guest).state }
+fn is_running(state: GuestState) -> bool
+    ensures { result ≡ is_running state }
 {
-    match guests.get(guest as usize - 1) {
-        None => false,
-        Some(spec) => spec.opened,
-    }
+    matches!(state, GuestState::Running)
 }
 
 /// The ASID of a guest.
@@ -84,13 +81,14 @@ pub fn index_of(address: u64) -> u16
 }
 
 // The beginning of an item, which may have a refusal of its own.
-#[tactic(auto, unfolding(snp_model::specs::Moves::begin_move))]
-fn begin(guests: &[GuestSpec], walker: &Walker, refusal: Option<Outcome>, shown: &mut Shown)
-    requires { 0 < walker.now.cpu.guest }
-    ensures moves { (after : View) (part : ActorPart) → begin_move after.contents part (opening_contexts guests.now walker.now.cpu.guest) (levels_of walker.now.cpu.paging) walker.now.lookup.address refusal ≡ move_by shown.new after part.standing }
+#[tactic(auto, unfolding(snp_model::specs::Moves::begin_move, crate::specs::Bays::contexts_of))]
+fn begin<P: Parts>(parts: &P, walker: &Walker, refusal: Option<Outcome>, shown: &mut Shown)
+    requires { IsSome ((P.stock parts.now).contexts walker.now.cpu.guest) }
+    ensures moves { (after : View) (part : ActorPart) (guests : List GuestSpec) → begin_move after.contents part (contexts_of (P.stock parts.now).contexts guests walker.now.cpu.guest) (levels_of walker.now.cpu.paging) walker.now.lookup.address refusal ≡ move_by shown.new after part.standing }
     ensures unlocked { shown.new.lock ≡ None }
 {
-    let outcome = if !is_running(guests, walker.cpu.guest) {
+    let context = parts.context(walker.cpu.guest);
+    let outcome = if !is_running(context.state) {
         Some(Outcome::Offline)
     } else if !is_canonical(levels_of(walker.cpu.paging), walker.lookup.address) {
         Some(Outcome::Gp)
@@ -238,6 +236,7 @@ fn reach<P: Parts>(parts: &mut P, place: &Place, frame: u32, op: &Op, shown: &mu
         ≡ move_by shown.new (view_on (P.stock parts.new) guests) part.standing }
     ensures unlocked { shown.new.lock ≡ None }
     ensures locks { locks_of (P.stock parts.new) ≡ locks_of (P.stock parts.old) }
+    ensures contexts { (P.stock parts.new).contexts ≡ (P.stock parts.old).contexts }
     ensures kept { P.kept parts.old parts.new }
 {
     let outcome = guest_access(parts, frame, place, op);
@@ -277,7 +276,7 @@ pub fn walk<P: Parts>(
 {
     let cpu = walker.cpu;
     if actor.deeds().is_empty() {
-        begin(guests, walker, refusal, shown);
+        begin(parts, walker, refusal, shown);
         return None;
     }
     match walk_need(
@@ -340,6 +339,7 @@ pub fn cpu_access<P: Parts>(
         ≡ move_by shown.new (view_on (P.stock parts.new) guests.now) actor.now.standing }
     ensures unlocked { shown.new.lock ≡ None }
     ensures locks { locks_of (P.stock parts.new) ≡ locks_of (P.stock parts.old) }
+    ensures contexts { (P.stock parts.new).contexts ≡ (P.stock parts.old).contexts }
     ensures kept { P.kept parts.old parts.new }
 {
     match walk(parts, frames, guests, actor, walker, None, stands, shown) {

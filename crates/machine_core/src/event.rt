@@ -3,7 +3,7 @@ ghost use Rattle.snp_model.specs.declared.scenario.GuestSpec.{GuestSpec};
 ghost use Rattle.snp_model.specs.declared.scenario.Role.TheVariants.{Cpu, Host, Firmware};
 ghost use Rattle.snp_model.specs.Bounds.{IsCpu, IsGuestInside, IsItemOf};
 ghost use Rattle.snp_model.specs.HeldLocks.{AreItemLocks};
-ghost use Rattle.snp_model.specs.KeptLocks.{IsTestedAt, OwnsLocks, relocked};
+ghost use Rattle.snp_model.specs.KeptLocks.{IsTestedAt, OwnsContext, OwnsLocks, recontexted, relocked};
 ghost use Rattle.snp_model.specs.OpenAttempts.{IsAttempt};
 ghost use Rattle.snp_model.specs.Ready.{IsReady};
 ghost use Rattle.snp_model.specs.Step.{item_move, line_at, step_of};
@@ -11,7 +11,7 @@ ghost use Rattle.snp_model.specs.Touches.{item_touches};
 ghost use Rattle.snp_model.specs.Walking.{guest_words};
 ghost use Rattle.machine_core.specs.Actors.{IsBegun};
 ghost use Rattle.machine_core.specs.Bays.{HasAll, HasTouched, locks_of, view_on};
-ghost use Rattle.machine_core.specs.Moves.{locks_by, move_by, standing_by};
+ghost use Rattle.machine_core.specs.Moves.{context_by, locks_by, move_by, standing_by};
 ghost use Rattle.machine_core.specs.Walks.{stands_of};
 
 use crate::actor::ActorState;
@@ -42,6 +42,7 @@ pub(crate) fn advance<P: Parts>(
     requires unfinished { actor.old.item < length actor.old.script }
     requires has { HasAll frames guests.now actor.old (P.stock parts.old) }
     requires owns { OwnsLocks number actor.old (locks_of (P.stock parts.old)).holder }
+    requires owns_context { OwnsContext number actor.old (locks_of (P.stock parts.old)).context_holder }
     requires tested { IsTestedAt frames guests.now (view_on (P.stock parts.old) guests.now).contents actor.old }
     ensures event { result ≡ (step_of frames guests.now actor.old (view_on (P.stock parts.old) guests.now)).event }
     ensures part { actor.new ≡ (step_of frames guests.now actor.old (view_on (P.stock parts.old) guests.now)).part }
@@ -49,6 +50,7 @@ pub(crate) fn advance<P: Parts>(
 
     // The locks of other actors stay.
     ensures locks { (locks_of (P.stock parts.new)).holder ≡ relocked number actor.new.standing.locks (locks_of (P.stock parts.old)).holder }
+    ensures context_locks { (locks_of (P.stock parts.new)).context_holder ≡ recontexted number actor.new.standing.context_lock (locks_of (P.stock parts.old)).context_holder }
     ensures kept { P.kept parts.old parts.new }
 {
     next_event(parts, number, frames, guests, actor, shown);
@@ -69,10 +71,12 @@ fn next_event<P: Parts>(
     requires unfinished { actor.now.item < length actor.now.script }
     requires has { HasAll frames guests.now actor.now (P.stock parts.old) }
     requires owns { OwnsLocks number actor.now (locks_of (P.stock parts.old)).holder }
+    requires owns_context { OwnsContext number actor.now (locks_of (P.stock parts.old)).context_holder }
     requires tested { IsTestedAt frames guests.now (view_on (P.stock parts.old) guests.now).contents actor.now }
     ensures moves { item_move frames guests.now (view_on (P.stock parts.old) guests.now) actor.now actor.now.role (line_at actor.now.script actor.now.item).item
         ≡ move_by shown.new (view_on (P.stock parts.new) guests.now) (standing_by shown.new actor.now.standing) }
     ensures locks { (locks_of (P.stock parts.new)).holder ≡ relocked number (locks_by shown.new actor.now.standing) (locks_of (P.stock parts.old)).holder }
+    ensures context_locks { (locks_of (P.stock parts.new)).context_holder ≡ recontexted number (context_by shown.new actor.now.standing) (locks_of (P.stock parts.old)).context_holder }
     ensures room { IsSome shown.new.lock → length actor.now.standing.locks < 3 }
     ensures kept { P.kept parts.old parts.new }
 {
@@ -108,7 +112,7 @@ fn next_event<P: Parts>(
 }
 
 // The next event of a guest's processor.
-#[tactic(auto, using(crate::proofs::HeldLaws::none_relocked, crate::proofs::ArrivedLaws::attempt_admitted), unfolding(snp_model::specs::Step::item_move, snp_model::specs::Touches::item_touches, snp_model::specs::HeldLocks::AreItemLocks, snp_model::specs::OpenAttempts::IsAttempt))]
+#[tactic(auto, using(crate::proofs::HeldLaws::none_relocked, crate::proofs::HeldLaws::none_recontexted, crate::proofs::HeldLaws::instruction_recontexted, crate::proofs::ArrivedLaws::attempt_admitted), unfolding(snp_model::specs::Step::item_move, snp_model::specs::Touches::item_touches, snp_model::specs::HeldLocks::AreItemLocks, snp_model::specs::OpenAttempts::IsAttempt))]
 fn cpu_event<P: Parts>(
     parts: &mut P,
     number: u32,
@@ -127,10 +131,12 @@ fn cpu_event<P: Parts>(
     requires attempt { IsAttempt frames (Cpu cpu.guest cpu.vmpl cpu.npt cpu.paging) item.now actor.now.standing actor.now.deeds }
     requires has { HasTouched (item_touches frames guests.now actor.now (Cpu cpu.guest cpu.vmpl cpu.npt cpu.paging) item.now) (P.stock parts.old) }
     requires owns { OwnsLocks number actor.now (locks_of (P.stock parts.old)).holder }
+    requires owns_context { OwnsContext number actor.now (locks_of (P.stock parts.old)).context_holder }
     requires tested { AreItemLocks frames guests.now (view_on (P.stock parts.old) guests.now).contents (Cpu cpu.guest cpu.vmpl cpu.npt cpu.paging) item.now actor.now.deeds actor.now.standing }
     ensures moves { item_move frames guests.now (view_on (P.stock parts.old) guests.now) actor.now (Cpu cpu.guest cpu.vmpl cpu.npt cpu.paging) item.now
         ≡ move_by shown.new (view_on (P.stock parts.new) guests.now) (standing_by shown.new actor.now.standing) }
     ensures locks { (locks_of (P.stock parts.new)).holder ≡ relocked number (locks_by shown.new actor.now.standing) (locks_of (P.stock parts.old)).holder }
+    ensures context_locks { (locks_of (P.stock parts.new)).context_holder ≡ recontexted number (context_by shown.new actor.now.standing) (locks_of (P.stock parts.old)).context_holder }
     ensures room { IsSome shown.new.lock → length actor.now.standing.locks < 3 }
     ensures kept { P.kept parts.old parts.new }
 {
@@ -182,7 +188,7 @@ fn cpu_event<P: Parts>(
 }
 
 // The next event of a hypervisor's processor.
-#[tactic(auto, using(crate::proofs::TouchLaws::frame_has, crate::proofs::HeldLaws::none_relocked), unfolding(snp_model::specs::Step::item_move, snp_model::specs::Touches::item_touches, snp_model::specs::HeldLocks::AreItemLocks))]
+#[tactic(auto, using(crate::proofs::TouchLaws::frame_has, crate::proofs::HeldLaws::none_relocked, crate::proofs::HeldLaws::none_recontexted, crate::proofs::HeldLaws::instruction_recontexted), unfolding(snp_model::specs::Step::item_move, snp_model::specs::Touches::item_touches, snp_model::specs::HeldLocks::AreItemLocks))]
 fn host_event<P: Parts>(
     parts: &mut P,
     number: u32,
@@ -195,10 +201,12 @@ fn host_event<P: Parts>(
     requires item { IsItemOf frames Host item.now }
     requires has { HasTouched (item_touches frames guests.now actor.now Host item.now) (P.stock parts.old) }
     requires owns { OwnsLocks number actor.now (locks_of (P.stock parts.old)).holder }
+    requires owns_context { OwnsContext number actor.now (locks_of (P.stock parts.old)).context_holder }
     requires tested { AreItemLocks frames guests.now (view_on (P.stock parts.old) guests.now).contents Host item.now actor.now.deeds actor.now.standing }
     ensures moves { item_move frames guests.now (view_on (P.stock parts.old) guests.now) actor.now Host item.now
         ≡ move_by shown.new (view_on (P.stock parts.new) guests.now) (standing_by shown.new actor.now.standing) }
     ensures locks { (locks_of (P.stock parts.new)).holder ≡ relocked number (locks_by shown.new actor.now.standing) (locks_of (P.stock parts.old)).holder }
+    ensures context_locks { (locks_of (P.stock parts.new)).context_holder ≡ recontexted number (context_by shown.new actor.now.standing) (locks_of (P.stock parts.old)).context_holder }
     ensures room { IsSome shown.new.lock → length actor.now.standing.locks < 3 }
     ensures kept { P.kept parts.old parts.new }
 {

@@ -19,6 +19,7 @@ pub fn host_access<P: Parts>(parts: &mut P, frames: u32, address: u64, op: &Op, 
     ensures moves { (guests : List GuestSpec) (part : ActorPart) → host_access (view_on (P.stock parts.old) guests).contents part address op.now ≡ move_by shown.new (view_on (P.stock parts.new) guests) part.standing }
     ensures unlocked { shown.new.lock ≡ None }
     ensures locks { locks_of (P.stock parts.new) ≡ locks_of (P.stock parts.old) }
+    ensures contexts { (P.stock parts.new).contexts ≡ (P.stock parts.old).contexts }
     ensures kept { P.kept parts.old parts.new }
 {
     let frame = (address / 4096) as u32;

@@ -6,6 +6,8 @@
 //!   `shown`: what an event shows.
 //! - `cpu`, `validate`, `adjust`, `host`, `update`, `smash`, `skip`: the items; `walking`: what the walks of a guest's
 //!   processor need next; `page`: what PVALIDATE and RMPADJUST share.
+//! - `page_move`, `reclaim`, `metadata`: the commits of page_move, page_reclaim and md_init; `release`: the release of an actor's
+//!   locks in one region.
 //! - `parts`: what is lent to an event; `bay`: one region of it; `reads`, `changes`: what an event reads of a region, and
 //!   what it reads and writes of one at once.
 //!
@@ -25,14 +27,23 @@ mod adjust;
 mod bay;
 mod building;
 mod changes;
+mod command;
 mod cpu;
 mod event;
+mod firmware;
+mod held_context;
 mod host;
+mod launch;
 mod law;
 mod machine;
+mod metadata;
 mod page;
+mod page_move;
 mod parts;
 mod reads;
+mod reclaim;
+mod refusal;
+mod release;
 mod shown;
 mod skip;
 mod smash;
@@ -43,6 +54,7 @@ mod walk_words;
 mod walking;
 
 pub use bay::Bay;
+pub use guest_context::GuestContext;
 pub use law::machine_laws;
 pub use machine::Machine;
 pub use parts::{OwnParts, Parts};

@@ -1,5 +1,6 @@
-ghost use Rattle.std.specs.Prelude.{◌≡◌, ℕ, ◌<◌, length, IfOk};
+ghost use Rattle.std.specs.Prelude.{◌≡◌, ℕ, ◌<◌, ◌≤◌, length, IfOk};
 ghost use Rattle.snp_model.specs.Ending.{guest_line};
+ghost use Rattle.snp_model.specs.Locks.{context_holder_of};
 ghost use Rattle.snp_model.specs.Opening.{opening};
 ghost use Rattle.snp_model.specs.Reading.{Valid};
 ghost use Rattle.std.specs.Bool.{OnTrue, OnFalse};
@@ -10,8 +11,9 @@ ghost use Rattle.machine_core.specs.Machine.{state_of};
 use crate::actor::ActorState;
 use crate::building::{free_parts, make_actors, set_pages, set_words};
 use crate::event::advance;
-use crate::parts::OwnParts;
+use crate::parts::{OwnParts, Parts};
 use crate::shown::Shown;
+use guest_context::GuestContext;
 use snp_model::{Event, GuestLine, GuestSpec, GuestState, Listed, Scenario};
 use std::alloc::{AllocError, Global};
 use std::marker::Model;
@@ -32,9 +34,9 @@ impl Model for Machine {
 
     ghost Value = { MachineImage };
 
-    ghost view = { λ m. record { bays = m.parts.bays.items; guests = m.guests; actors = m.actors.items } };
+    ghost view = { λ m. record { bays = m.parts.bays.items; contexts = m.parts.contexts.items; guests = m.guests; actors = m.actors.items } };
 
-    ghost invariant = { λ m. IsMachine (record { bays = m.parts.bays.items; guests = m.guests; actors = m.actors.items }) };
+    ghost invariant = { λ m. IsMachine (record { bays = m.parts.bays.items; contexts = m.parts.contexts.items; guests = m.guests; actors = m.actors.items }) };
 }
 
 impl Machine {
@@ -44,7 +46,7 @@ impl Machine {
         ensures { IfOk result (λ m. state_of m ≡ opening scenario.now) }
     {
         let guests = scenario.guests.as_slice();
-        let mut parts = free_parts(alloc, scenario.regions)?;
+        let mut parts = free_parts(alloc, scenario.regions, guests)?;
         set_pages(&mut parts, guests, scenario.pages.as_slice());
         set_words(&mut parts, scenario.words.as_slice());
         let actors = make_actors(alloc, scenario.actors.as_slice())?;
@@ -112,25 +114,36 @@ impl Machine {
         self.guests.len() as u8
     }
 
-    /// What a report says of a guest, numbered from 1.
+    /// The context of a declared guest, numbered from 1, with its lock.
+    pub fn context(&self, guest: u8) -> &GuestContext
+        requires some { 0 < guest }
+        requires declared { guest ≤ length (state_of self.now).guests }
+        ensures context { result.now.context ≡ (state_of self.now).contents.contexts guest }
+        ensures holder { result.now.holder ≡ context_holder_of (state_of self.now) guest }
+    {
+        self.parts.context(guest)
+    }
+
+    /// What a report says of a guest, numbered from 1: of one that isn't declared, that it has no context.
     #[tactic(auto, unfolding(snp_model::specs::Opening::opening_context))]
     pub fn guest_line(&self, guest: u8) -> GuestLine
         requires { 0 < guest }
         ensures { result ≡ guest_line guest ((state_of self.now).contents.contexts guest) }
     {
-        let opened = match self.guests.as_slice().get(guest as usize - 1) {
-            None => false,
-            Some(spec) => spec.opened,
-        };
+        if self.guests.len() < guest as usize {
+            return GuestLine {
+                guest,
+                state: GuestState::Absent,
+                pages: 0,
+                digest: [0; 48],
+            };
+        }
+        let context = self.context(guest);
         GuestLine {
             guest,
-            state: if opened {
-                GuestState::Running
-            } else {
-                GuestState::Absent
-            },
-            pages: 0,
-            digest: [0; 48],
+            state: context.state,
+            pages: context.pages,
+            digest: context.digest.bytes(),
         }
     }
 }

@@ -1,17 +1,19 @@
 ghost use Rattle.std.specs.Prelude.{◌≡◌, None, Some};
-ghost use Rattle.snp_model.specs.declared.event.Deed.TheVariants.{Control, Lock};
+ghost use Rattle.snp_model.specs.declared.event.Deed.TheVariants.{Control, Lock, LockContext};
 ghost use Rattle.snp_model.specs.declared.event.Outcome.TheVariants.{Next};
+ghost use Rattle.snp_model.specs.FirmwareStep.{refused};
 ghost use Rattle.snp_model.specs.InstructionStep.{refused_outcome};
+ghost use Rattle.machine_core.specs.declared.taken_lock.Taken.TheVariants.{OfContext, OfPage};
 
-use crate::taken_lock::TakenLock;
-use snp_model::{Deed, Outcome, Refusal};
+use crate::taken_lock::{Taken, TakenLock};
+use snp_model::{Deed, FwRefusal, Outcome, Refusal};
 
 /// What an event shows: what was done, how the attempt ended, if it did, and the lock that was taken.
 #[derive(Clone, Copy)]
 pub struct Shown {
     pub deed: Deed,
     pub outcome: Option<Outcome>,
-    pub lock: Option<TakenLock>,
+    pub lock: Option<Taken>,
 }
 
 impl Shown {
@@ -56,14 +58,39 @@ impl Shown {
 
     /// An event that takes a lock of pages.
     pub fn locked(lock: TakenLock) -> Shown
-        ensures { result ≡ record { deed = Lock lock.frame; outcome = None; lock = Some lock } }
+        ensures { result ≡ record { deed = Lock lock.frame; outcome = None; lock = Some (OfPage lock) } }
     {
         let frame = u64::from(lock.frame);
         Shown {
             deed: Deed::Lock { frame },
             outcome: None,
-            lock: Some(lock),
+            lock: Some(Taken::OfPage(lock)),
         }
+    }
+
+    /// An event that locks the context of a guest.
+    pub fn locked_context(guest: u8) -> Shown
+        ensures { result ≡ record { deed = LockContext guest; outcome = None; lock = Some (OfContext guest) } }
+    {
+        Shown {
+            deed: Deed::LockContext { guest },
+            outcome: None,
+            lock: Some(Taken::OfContext(guest)),
+        }
+    }
+
+    /// An event at which the lock of a guest's context is refused.
+    pub fn context_refused(guest: u8, refusal: FwRefusal) -> Shown
+        ensures { result ≡ record { deed = LockContext guest; outcome = Some (refused refusal); lock = None } }
+    {
+        Shown::last(Deed::LockContext { guest }, firmware_refused(refusal))
+    }
+
+    /// An event at which the lock of a page of a command of the firmware is refused.
+    pub fn named_refused(frame: u64, refusal: FwRefusal) -> Shown
+        ensures { result ≡ record { deed = Lock frame; outcome = Some (refused refusal); lock = None } }
+    {
+        Shown::last(Deed::Lock { frame }, firmware_refused(refusal))
     }
 
     /// An event at which the lock of a frame's page is refused.
@@ -71,6 +98,17 @@ impl Shown {
         ensures { result ≡ record { deed = Lock frame; outcome = Some (refused_outcome refusal); lock = None } }
     {
         Shown::last(Deed::Lock { frame }, refused(refusal))
+    }
+}
+
+// How the refusal of a command of the firmware ends the attempt.
+fn firmware_refused(refusal: FwRefusal) -> Outcome
+    ensures { result ≡ refused refusal }
+{
+    match refusal {
+        FwRefusal::Status(status) => Outcome::Firmware(status),
+        FwRefusal::InUse { holder } => Outcome::FirmwareInUse { holder },
+        FwRefusal::BadTag { found, kept } => Outcome::BadTag { found, kept },
     }
 }
 

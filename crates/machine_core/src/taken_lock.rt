@@ -8,3 +8,10 @@ pub struct TakenLock {
     /// How many they are.
     pub count: u32,
 }
+
+/// What one event of an open attempt has locked: a page, or the context of a guest.
+#[derive(Clone, Copy)]
+pub enum Taken {
+    OfPage(TakenLock),
+    OfContext(u8),
+}

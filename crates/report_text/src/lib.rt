@@ -1,12 +1,14 @@
-//! The text of a report.
+//! The text of a report, and the line that tells a launch digest.
 #![tactic(auto)]
 
 mod base16;
+mod digest;
 mod laws;
 mod line;
 mod order;
 mod report;
 
+pub use digest::write_digest;
 pub use laws::runs_are_longest;
 pub use line::write_line;
 pub use report::write_report;

@@ -92,14 +92,14 @@ const REFUSED_ITEMS: [(Role, &str, Reason); 60] = [
     (Role::Firmware, "skip", Reason::Form),
 ];
 
-fn is_refused_item(role: &Role, line: &str, why: Reason) -> bool {
+pub(crate) fn is_refused_item(role: &Role, line: &str, why: Reason) -> bool {
     match read_item(role, line.as_bytes(), 512) {
         Err(reason) => reason == why,
         Ok(_) => false,
     }
 }
 
-fn is_line(role: &Role, line: &str, expected: Line) -> bool {
+pub(crate) fn is_line(role: &Role, line: &str, expected: Line) -> bool {
     match read_item(role, line.as_bytes(), 512) {
         Ok(read) => read == expected,
         Err(_) => false,

@@ -1,6 +1,8 @@
 //! The scenario text.
 #![tactic(auto)]
 
+#[cfg(test)]
+mod command_tests;
 mod draft;
 mod fault;
 #[cfg(test)]

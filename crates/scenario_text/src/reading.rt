@@ -11,16 +11,16 @@ ghost use Rattle.snp_model.specs.ScenarioLines.{
   version_row,
   is_order_row,
 };
-ghost use Rattle.snp_model.specs.Reading.{add_words, fit_words, fit_line, fit, is_passed_over, by_rule, nothing, reading, closed};
+ghost use Rattle.snp_model.specs.Reading.{add_words, fit_words, fit_line, fit, by_rule, nothing, reading, closed};
 ghost use Rattle.snp_model.specs.Reading as says;
 ghost use Rattle.scenario_text.specs.Steps.{made_of, Grows, Continues, Changes, IsClosed};
 ghost use Rattle.scenario_text.specs.declared.draft.Made.TheVariants.{Nothing};
 
 use crate::draft::{Draft, Made, Next};
 use crate::fault::LineFault;
-use crate::rows::{read_cpu, read_host, read_tables, read_version};
+use crate::rows::{read_cpu, read_role, read_tables, read_version};
 use script_text::number::is_word;
-use script_text::words::Words;
+use script_text::words::{Words, is_passed_over};
 use snp_model::{Reason, Scenario};
 use std::alloc::Global;
 use std::mem;
@@ -98,7 +98,7 @@ fn add_words(draft: &mut Draft, alloc: Global, words: &Words<'_>) -> Result<Next
         let role = read_tables(scenario, words);
         goes_on(draft.add_actor(alloc, role))
     } else if stands(words, b"actor", 3, before_orders(scenario)) {
-        let role = read_host(scenario, words);
+        let role = read_role(scenario, words);
         goes_on(draft.add_actor(alloc, role))
     } else if order_stands(words, scenario.regions != 0) {
         goes_on(draft.add_order(words))
@@ -107,13 +107,6 @@ fn add_words(draft: &mut Draft, alloc: Global, words: &Words<'_>) -> Result<Next
     } else {
         goes_on(draft.add_item(alloc, words))
     }
-}
-
-// Whether a line is empty or a comment.
-fn is_passed_over(line: &[u8]) -> bool
-    ensures { result ≡ is_passed_over line.now }
-{
-    line.is_empty() || line[0] == b'#'
 }
 
 // What a line makes where no line has said the version yet.

@@ -25,7 +25,8 @@ ghost use Rattle.snp_model.specs.ScenarioLines.{
   has_five_levels,
   tables_at,
   tables_row,
-  host_row,
+  role_word,
+  role_row,
   turn_from,
   turn_of,
 };
@@ -84,13 +85,15 @@ fn read_next(count: usize, word: &[u8]) -> Result<u64, Reason>
     read_ranged(next, next, word)
 }
 
-// Whether a guest is there from the opening on.
+// Whether a guest is opened, or new.
 #[tactic(auto, unfolding(snp_model::specs::ScenarioLines::opening))]
 fn read_opening(word: &[u8]) -> Result<bool, Reason>
     ensures { result ≡ opening word.now }
 {
     if is_word(word, b"opened") {
         Ok(true)
+    } else if is_word(word, b"new") {
+        Ok(false)
     } else {
         Err(Reason::Form)
     }
@@ -136,7 +139,7 @@ fn has_asid(guests: &[GuestSpec], asid: u64) -> bool
     guests.iter().any(|guest| u64::from(guest.asid) == asid)
 }
 
-/// `guest G opened asid A iv N key K`
+/// `guest G opened asid A iv N key K`, `guest G new asid A iv N key K`
 #[tactic(auto, unfolding(snp_model::specs::ScenarioLines::guest_row))]
 pub fn read_guest(scenario: &Scenario, words: &Words<'_>) -> Result<GuestSpec, Reason>
     requires count { length words.now ≡ 9 }
@@ -355,16 +358,29 @@ pub fn read_tables(scenario: &Scenario, words: &Words<'_>) -> Result<Role, Reaso
     })
 }
 
-/// `actor N host`
-#[tactic(auto, unfolding(snp_model::specs::ScenarioLines::host_row))]
-pub fn read_host(scenario: &Scenario, words: &Words<'_>) -> Result<Role, Reason>
+// `host` or `fw`
+#[tactic(auto, unfolding(snp_model::specs::ScenarioLines::role_word))]
+fn role_of(word: &[u8]) -> Result<Role, Reason>
+    ensures { result ≡ role_word word.now }
+{
+    if is_word(word, b"host") {
+        Ok(Role::Host)
+    } else if is_word(word, b"fw") {
+        Ok(Role::Firmware)
+    } else {
+        Err(Reason::Form)
+    }
+}
+
+/// `actor N host`, `actor N fw`
+#[tactic(auto, unfolding(snp_model::specs::ScenarioLines::role_row))]
+pub fn read_role(scenario: &Scenario, words: &Words<'_>) -> Result<Role, Reason>
     requires count { length words.now ≡ 3 }
     requires actors { length scenario.now.actors ≤ 32 }
-    ensures { result ≡ host_row scenario.now words.now }
+    ensures { result ≡ role_row scenario.now words.now }
 {
     read_next(scenario.actors.len(), words.at(1))?;
-    read_fixed(words.at(2), b"host")?;
-    Ok(Role::Host)
+    role_of(words.at(2))
 }
 
 // A run of a schedule.

@@ -283,7 +283,7 @@ const LIMITED: [(&str, Quantity, u64); 5] = [
     ),
 ];
 
-fn is_refused(alloc: Global, text: &str, at: u32, why: Reason) -> bool {
+pub(crate) fn is_refused(alloc: Global, text: &str, at: u32, why: Reason) -> bool {
     match read_scenario(alloc, text.as_bytes()) {
         Err(ScenarioFault::Refused { line, reason }) => line == at && reason == why,
         _ => false,

@@ -29,18 +29,18 @@ pub fn read_size(word: &[u8]) -> Result<PageSize, Reason>
     }
 }
 
-// 0 or 1.
+/// 0 or 1.
 #[tactic(auto, unfolding(snp_model::specs::ItemLines::flag_word))]
-fn read_flag(word: &[u8]) -> Result<bool, Reason>
+pub fn read_flag(word: &[u8]) -> Result<bool, Reason>
     ensures { result ≡ flag_word word.now }
 {
     let flag = read_below(2, word)?;
     Ok(flag == 1)
 }
 
-// How many times an item is tried again, whose own words are so many.
+/// How many times an item is tried again, whose own words are so many.
 #[tactic(auto, unfolding(snp_model::specs::ItemLines::retries_word))]
-fn read_retries(words: &Words<'_>, count: usize) -> Result<u8, Reason>
+pub fn read_retries(words: &Words<'_>, count: usize) -> Result<u8, Reason>
     requires few { count ≤ 15 }
     requires count { (length words.now ≡ count) ⊎ (length words.now ≡ count + 2) }
     ensures { result ≡ retries_word words.now count }

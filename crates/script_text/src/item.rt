@@ -15,10 +15,15 @@ ghost use Rattle.snp_model.specs.ItemLines.{
   access_item,
   cpu_item,
   host_item,
+  firmware_item,
   item_words,
   item_line,
 };
 
+use crate::commands::{
+    read_activate, read_create, read_finish, read_init, read_launch, read_move, read_reclaim,
+    read_start, with_retries,
+};
 use crate::instructions::{read_adjust, read_smash, read_update, read_validate};
 use crate::number::{is_word, multiple, read_below, read_fixed, read_number, read_ranged};
 use crate::words::Words;
@@ -231,6 +236,32 @@ fn read_host_item(frames: u32, words: &Words<'_>) -> Result<Line, Reason>
     }
 }
 
+// The items of a firmware actor.
+#[tactic(auto, unfolding(snp_model::specs::ItemLines::firmware_item))]
+fn read_firmware_item(words: &Words<'_>) -> Result<Line, Reason>
+    ensures { result ≡ firmware_item words.now }
+{
+    if words.is_retry_row(b"gctx_create", 3) {
+        with_retries(words, 3, read_create(words))
+    } else if words.is_retry_row(b"activate", 3) {
+        with_retries(words, 3, read_activate(words))
+    } else if words.is_retry_row(b"launch_start", 2) {
+        with_retries(words, 2, read_start(words))
+    } else if words.is_retry_row(b"launch_update", 8) {
+        with_retries(words, 8, read_launch(words))
+    } else if words.is_retry_row(b"launch_finish", 2) {
+        with_retries(words, 2, read_finish(words))
+    } else if words.is_retry_row(b"md_init", 2) {
+        with_retries(words, 2, read_init(words))
+    } else if words.is_retry_row(b"page_move", 4) {
+        with_retries(words, 4, read_move(words))
+    } else if words.is_retry_row(b"page_reclaim", 2) {
+        with_retries(words, 2, read_reclaim(words))
+    } else {
+        read_skip_item(words)
+    }
+}
+
 /// The item that the words of a line say, for an actor with this role, in a memory of `frames` frames.
 pub fn read_item_words(role: &Role, frames: u32, words: &Words<'_>) -> Result<Line, Reason>
     ensures { result ≡ item_words role.now frames words.now }
@@ -238,7 +269,7 @@ pub fn read_item_words(role: &Role, frames: u32, words: &Words<'_>) -> Result<Li
     match role {
         Role::Cpu { .. } => read_cpu_item(role, frames, words),
         Role::Host => read_host_item(frames, words),
-        Role::Firmware => read_skip_item(words),
+        Role::Firmware => read_firmware_item(words),
     }
 }
 

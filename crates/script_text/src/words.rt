@@ -26,6 +26,7 @@ ghost use Rattle.std.specs.Bool.{OnTrue};
 ghost use Rattle.std.specs.List.{list_all, position_or_len};
 ghost use Rattle.snp_model.specs.Lines.{parts_at, cut_at, words_of, word, most_words, is_row, is_printable, is_plain};
 ghost use Rattle.snp_model.specs.ItemLines.{is_retry_row};
+ghost use Rattle.snp_model.specs.Reading.{is_passed_over};
 ghost use Rattle.script_text.specs.Pieces.{ends_word};
 
 use crate::number::is_word;
@@ -84,6 +85,13 @@ fn word_length(line: &[u8]) -> usize
         }
     }
     line.len()
+}
+
+/// Whether a line is empty or a comment.
+pub fn is_passed_over(line: &[u8]) -> bool
+    ensures { result ≡ is_passed_over line.now }
+{
+    line.is_empty() || line[0] == b'#'
 }
 
 /// The words of a line, which are 1 to 17.

@@ -2,11 +2,14 @@
 use Rattle.std.proofs.Common.{◌≡◌, Bool, IfSome, ℕ, ◌<◌, ◌≤◌, ◌⊎◌, ◌≢◌, zero, suc, List, [], length, Option, Some, None, sym, ◌∙◌, subst, inl, inr, append-nil, arith}
 use Rattle.snp_model.specs.declared.scenario.Scenario.{Scenario}
 use Rattle.snp_model.specs.Ending.{report_of}
+use Rattle.snp_model.specs.MeasureText.{digest_line}
+use Rattle.snp_model.specs.Measurement.{measure}
 use Rattle.snp_model.specs.Outside.{Adds, AddsPrefix, Rose}
 use Rattle.snp_model.specs.Report.{report_text}
 use Rattle.snp_model.proofs.Adding.{adds_twice}
 use Rattle.snp_top.specs.Batch.{SaysBadTurn, SaysLimit, SaysRefusal, WritesLine}
 use Rattle.snp_top.specs.Fleets.{Kept}
+use Rattle.snp_top.specs.Measures.{SaysCutDigest, SaysPageRefusal, WritesDigest}
 use Rattle.snp_top.specs.Replays.{IsRead, ReadsText, SaysOne}
 use Rattle.snp_top.specs.Runs.{IsReported, ReportsKept}
 
@@ -77,6 +80,24 @@ pub report_cut : (to_ends : Bool) (left taken old mid now : Option (List ℕ)) �
 report_cut to_ends None taken old mid now read reported flushed = tt
 report_cut to_ends (Some text) taken old mid now read reported flushed =
     (read, (reported.0, reported.1, reported_as to_ends reported.0 (Adds old mid) (AddsPrefix old now) (λ bytes adds. whole_cut old now bytes (adds_kept old mid now bytes adds flushed)) reported.2))
+
+-- the same of the line that tells a digest
+pub digest_kept : (left taken old mid now : Option (List ℕ)) → WritesDigest left taken old mid → Adds mid now [] → WritesDigest left taken old now
+digest_kept None taken old mid now written flushed = tt
+digest_kept (Some text) taken old mid now written flushed = (written.0, (written.1.0, written.1.1, adds_kept old mid now (digest_line (measure written.1.0)) written.1.2 flushed))
+
+pub cut_digest_kept : (left taken old mid now : Option (List ℕ)) → SaysCutDigest left taken old mid → Adds mid now [] → SaysCutDigest left taken old now
+cut_digest_kept None taken old mid now cut flushed = tt
+cut_digest_kept (Some text) taken old mid now cut flushed = (cut.0, (cut.1.0, cut.1.1, prefix_kept old mid now (digest_line (measure cut.1.0)) cut.1.2 flushed))
+
+pub digest_cut : (left taken old mid now : Option (List ℕ)) → WritesDigest left taken old mid → Adds mid now [] → SaysCutDigest left taken old now
+digest_cut None taken old mid now written flushed = tt
+digest_cut (Some text) taken old mid now written flushed =
+    let line : List ℕ = digest_line (measure written.1.0) in
+    (written.0, (written.1.0, written.1.1, whole_cut old now line (adds_kept old mid now line written.1.2 flushed)))
+
+pub page_refusal_kept : (left taken old mid now : Option (List ℕ)) (before between after : ℕ) → SaysPageRefusal left taken old mid before between → Adds mid now [] → between ≤ after → SaysPageRefusal left taken old now before after
+page_refusal_kept left taken old mid now before between after refused flushed later = (refused.0, refused.1, refused.2, line_kept old mid now before between after _ refused.3 flushed later)
 
 -- the status of a command whose output couldn't be handed on is 6 for 0, and else its own
 pub record IsUnflushed (status result : ℕ) : Type 0 where

@@ -1,4 +1,4 @@
-//! The program: `snp replay < SCENARIO`, `snp run < SCENARIO`.
+//! The program: `snp replay < SCENARIO`, `snp run < SCENARIO`, `snp measure < MEASURE_TEXT`.
 #![tactic(auto)]
 
 mod session;

@@ -1,13 +1,16 @@
 //! A command over a writer that holds its output back.
 ghost use Rattle.std.specs.Prelude.{◌≡◌, ℕ, ◌≤◌, ◌<◌, ◌≢◌, ◌⊎◌, ◌↔◌, true, false, List, Some, IfSome, length, map, string_bytes};
 ghost use Rattle.snp_model.specs.declared.scenario.Scenario.{Scenario};
-ghost use Rattle.snp_model.specs.CommandLine.{are_words};
+ghost use Rattle.snp_model.specs.CommandLine.{is_measure, is_replay};
+ghost use Rattle.snp_model.specs.MeasureText.{SaysPages};
+ghost use Rattle.snp_model.specs.Measurement.{LaunchedPage};
 ghost use Rattle.snp_model.specs.Outside.{Adds, AddsPrefix, Rose};
 ghost use Rattle.snp_model.specs.Reading.{Reads, order_of};
 ghost use Rattle.snp_model.specs.Run.{IsDefined};
 ghost use Rattle.snp_top.specs.Batch.{SaysBadTurn, SaysLimit, SaysRefusal};
+ghost use Rattle.snp_top.specs.Measures.{SaysCutDigest, SaysPageRefusal, WritesDigest};
 ghost use Rattle.snp_top.specs.Replays.{IsRead, ReadsText, SaysOne};
-ghost use Rattle.snp_top.specs.Runs.{IsReported, ReportsKept, are_commands, is_run};
+ghost use Rattle.snp_top.specs.Runs.{IsReported, ReportsKept, are_commands, is_run, reads_scenario};
 
 use outside_port::{Failed, Gate, Source, WriterSink};
 use snp_top::fleet::Fleet;
@@ -33,30 +36,39 @@ pub fn answer<S: Source, W: Write, G: Gate + Sync, F: Fleet, R: Threads + Wait +
 ) -> u8
     // With status 0 all holds that `snp_main` promises, and the writer has handed on what it held back.
     ensures source_read { result ≡ 0 → IsRead (S.left source.old) (S.left source.new) }
-    ensures reported { result ≡ 0 → IfSome (S.left source.old)
+    ensures reported { result ≡ 0 → reads_scenario (map string_bytes words.now.items) ≡ true → IfSome (S.left source.old)
         (SaysOne (λ c. IsReported (is_run (map string_bytes words.now.items)) c (Adds sink.old.written sink.new.written))) }
     ensures fleet_keeps { result ≡ 0 → is_run (map string_bytes words.now.items) ≡ true → IfSome (S.left source.old)
         (SaysOne (λ c. 0 < length c.actors → ReportsKept c (F.kept fleet.new) sink.old.written sink.new.written)) }
 
+    ensures digest_written { result ≡ 0 → is_measure (map string_bytes words.now.items) ≡ true → WritesDigest (S.left source.old) (S.left source.new) sink.old.written sink.new.written }
+
     // Every other status has its cause.
     ensures statuses { (result ≤ 8) × (result ≢ 1) }
     ensures words_refused { (result ≡ 2) ↔ (are_commands (map string_bytes words.now.items) ≡ false) }
-    ensures scenario_refused { result ≡ 3 → SaysRefusal (S.left source.old) (S.left source.new) sink.old.written sink.new.written sink.old.faults sink.new.faults }
+    ensures scenario_refused { result ≡ 3 → reads_scenario (map string_bytes words.now.items) ≡ true → SaysRefusal (S.left source.old) (S.left source.new) sink.old.written sink.new.written sink.old.faults sink.new.faults }
+    ensures pages_refused { result ≡ 3 → is_measure (map string_bytes words.now.items) ≡ true → SaysPageRefusal (S.left source.old) (S.left source.new) sink.old.written sink.new.written sink.old.faults sink.new.faults }
     ensures limit_passed { result ≡ 4 → SaysLimit (S.left source.old) (S.left source.new) sink.old.written sink.new.written sink.old.faults sink.new.faults }
     ensures read_failed { result ≡ 5 → Rose (S.faults source.old) (S.faults source.new) }
     ensures write_failed { result ≡ 6 → Rose sink.old.faults sink.new.faults }
-    ensures report_cut { result ≡ 6 → ReadsText (S.left source.old) (S.left source.new)
+    ensures report_cut { result ≡ 6 → reads_scenario (map string_bytes words.now.items) ≡ true → ReadsText (S.left source.old) (S.left source.new)
         (SaysOne (λ c. IsReported (is_run (map string_bytes words.now.items)) c (AddsPrefix sink.old.written sink.new.written))) }
+    ensures digest_cut { result ≡ 6 → is_measure (map string_bytes words.now.items) ≡ true → SaysCutDigest (S.left source.old) (S.left source.new) sink.old.written sink.new.written }
     ensures schedule_refused { result ≡ 8 → SaysBadTurn (S.left source.old) (S.left source.new) sink.old.written sink.new.written sink.old.faults sink.new.faults }
     ensures run_has_no_schedule { result ≡ 8 → is_run (map string_bytes words.now.items) ≡ false }
+    ensures pages_have_no_schedule { result ≡ 8 → is_measure (map string_bytes words.now.items) ≡ false }
 
-    // Nothing else keeps the report from being written.
-    ensures replay_complete { (text : List ℕ) (c : Scenario) → are_words (map string_bytes words.now.items) ≡ true → S.left source.old ≡ Some text
+    // Nothing else keeps the report from being written, nor the digest.
+    ensures replay_complete { (text : List ℕ) (c : Scenario) → is_replay (map string_bytes words.now.items) ≡ true → S.left source.old ≡ Some text
         → Reads text c → IsDefined c (order_of c)
         → (Rose (S.faults source.old) (S.faults source.new) → ⊥) → (Rose sink.old.faults sink.new.faults → ⊥)
         → (result ≡ 0) ⊎ (result ≡ 7) }
     ensures run_complete { (text : List ℕ) (c : Scenario) → is_run (map string_bytes words.now.items) ≡ true → S.left source.old ≡ Some text
         → Reads text c
+        → (Rose (S.faults source.old) (S.faults source.new) → ⊥) → (Rose sink.old.faults sink.new.faults → ⊥)
+        → (result ≡ 0) ⊎ (result ≡ 7) }
+    ensures digest_complete { (text : List ℕ) (pages : List LaunchedPage) → is_measure (map string_bytes words.now.items) ≡ true → S.left source.old ≡ Some text
+        → SaysPages text pages
         → (Rose (S.faults source.old) (S.faults source.new) → ⊥) → (Rose sink.old.faults sink.new.faults → ⊥)
         → (result ≡ 0) ⊎ (result ≡ 7) }
 {

@@ -28,10 +28,11 @@ pub with_word_length : (frame index value : ℕ) (pages : Pages) (f : ℕ) → l
 with_word_length frame index value pages f =
     cond_both (eqb frame f) _ _ (λ (page : Page). length page.words ≡ length (pages f).words) (λ _. length-set (pages f).words index value) (λ _. refl)
 
--- a frame that the firmware uses is assigned, and immutable
+-- a frame that the firmware uses is assigned, immutable and no guest's
 pub record KindFits (facts : RmpEntry) : Type 0 where
   pub assigned : facts.kind ≢ kinds.Plain → facts.assigned ≡ true
   pub immutable : facts.kind ≢ kinds.Plain → facts.immutable ≡ true
+  pub no_guest : facts.kind ≢ kinds.Plain → facts.asid ≡ 0
 
 abbrev pub AreFit : Pages → Type 0
 AreFit pages = (f : ℕ) → KindFits (pages f).facts

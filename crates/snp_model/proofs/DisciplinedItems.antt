@@ -1,5 +1,6 @@
--- What an event of any item of a processor does to the pages of a guest and to pages of 2 MB, PVALIDATE and RMPADJUST among them, where the guest's memory lacks what the event makes held.
-use Rattle.std.proofs.Common.{ℕ, ◌-◌, Bool, List}
+-- What an event of any item but a command that seals or opens a page does to the pages of a guest and to pages of 2 MB, PVALIDATE, RMPADJUST and the other commands among them, where the guest's memory lacks what the event makes held.
+use Rattle.std.proofs.Common.{◌≡◌, ℕ, ◌-◌, Bool, List, None}
+use Rattle.snp_model.specs.declared.command.Command.{Command}
 use Rattle.snp_model.specs.declared.entry.PageSize.{PageSize}
 use Rattle.snp_model.specs.declared.item.Item.{Item}
 use Rattle.snp_model.specs.declared.item.Item.TheVariants as items
@@ -13,9 +14,12 @@ use Rattle.snp_model.specs.KeptLocks.{KeepsLocks}
 use Rattle.snp_model.specs.Live.{Archive}
 use Rattle.snp_model.specs.Locks.{view_of}
 use Rattle.snp_model.specs.OpenAttempts.{IsAttempt, IsWalking}
+use Rattle.snp_model.specs.Sealing.{sealing_of}
 use Rattle.snp_model.specs.State.{ActorPart, State, View, part_of}
 use Rattle.snp_model.specs.Step.{item_move, line_at, after}
+use Rattle.snp_model.proofs.FirmwareUseLaws.{command_fine}
 use Rattle.snp_model.proofs.ItemUseLaws.{item_fine}
+use Rattle.snp_model.proofs.LargeCommands.{command_large}
 use Rattle.snp_model.proofs.LargeInstructions.{validate_large, adjust_large}
 use Rattle.snp_model.proofs.LargeItems.{LeavesLarge, item_large}
 use Rattle.snp_model.proofs.LargePages.{AreLargeWhole}
@@ -24,20 +28,22 @@ use Rattle.snp_model.proofs.LockedMoves.{MoveLocks}
 use Rattle.snp_model.proofs.UseLaws.{RoleOwns, IsProved, Before, MoveFine}
 use Rattle.snp_model.proofs.ValidateUseLaws.{LacksAccepted, validate_fine, adjust_fine}
 
--- an item of which it is proved where the guest is disciplined: any but a command of the firmware
-abbrev pub IsNoCommand : Role → Item → Type 0
-IsNoCommand Firmware (items.Firmware command) = ⊥
-IsNoCommand role item = Unit {0}
+-- an item of which it is proved where the guest is disciplined: any but a command that seals or opens a page
+abbrev pub IsNoSealing : Role → Item → Type 0
+IsNoSealing Firmware (items.Firmware command) = sealing_of command ≡ None
+IsNoSealing role item = Unit {0}
 
--- such an item is a PVALIDATE or an RMPADJUST of a guest's processor, or one of which it is proved for any guest
+-- such an item is a PVALIDATE or an RMPADJUST of a guest's processor, a command that seals nothing, or one of which it is proved for any guest
 by_item : (P : Role → Item → Type 0)
     → ((owner vmpl npt : ℕ) (paging : Paging) (address : ℕ) (size : PageSize) (validate : Bool) → P (Cpu owner vmpl npt paging) (items.Pvalidate address size validate))
     → ((owner vmpl npt : ℕ) (paging : Paging) (address : ℕ) (size : PageSize) (target mask : ℕ) (vmsa : Bool) → P (Cpu owner vmpl npt paging) (items.Rmpadjust address size target mask vmsa))
+    → ((command : Command) → sealing_of command ≡ None → P Firmware (items.Firmware command))
     → ((role : Role) (item : Item) → IsProved role item → P role item)
-    → (role : Role) (item : Item) → IsNoCommand role item → P role item
-by_item P validates adjusts others (Cpu owner vmpl npt paging) (items.Pvalidate address size validate) known = validates owner vmpl npt paging address size validate
-by_item P validates adjusts others (Cpu owner vmpl npt paging) (items.Rmpadjust address size target mask vmsa) known = adjusts owner vmpl npt paging address size target mask vmsa
-by_item P validates adjusts others role item known = others role item known
+    → (role : Role) (item : Item) → IsNoSealing role item → P role item
+by_item P validates adjusts commits others (Cpu owner vmpl npt paging) (items.Pvalidate address size validate) known = validates owner vmpl npt paging address size validate
+by_item P validates adjusts commits others (Cpu owner vmpl npt paging) (items.Rmpadjust address size target mask vmsa) known = adjusts owner vmpl npt paging address size target mask vmsa
+by_item P validates adjusts commits others Firmware (items.Firmware command) known = commits command known
+by_item P validates adjusts commits others role item known = others role item known
 
 -- what an item's event does to a guest's pages and memory
 abbrev ItemFine : ℕ → ℕ → Archive → List GuestSpec → Memory → ℕ → View → ActorPart → Role → Item → Type 0
@@ -59,12 +65,19 @@ unfolding item_move
 adjust_item guest asid archive guests memory frames view part owner vmpl npt paging address size target mask vmsa before owns whole tested walking lacks =
     adjust_fine guest asid archive guests memory frames view part (record { guest = owner; vmpl = vmpl; npt = npt; paging = paging }) address size target mask vmsa before owns
 
-pub processor_item_fine : (guest asid : ℕ) (archive : Archive) (guests : List GuestSpec) (memory : Memory) (frames : ℕ) (view : View) (part : ActorPart) (role : Role) (item : Item) → IsNoCommand role item
+command_item : (guest asid : ℕ) (archive : Archive) (guests : List GuestSpec) (memory : Memory) (frames : ℕ) (view : View) (part : ActorPart) (command : Command) → sealing_of command ≡ None
+    → ItemFine guest asid archive guests memory frames view part Firmware (items.Firmware command)
+unfolding AreItemLocks item_move
+command_item guest asid archive guests memory frames view part command plain before owns whole tested walking lacks =
+    command_fine guest asid archive guests memory frames view part command plain before owns tested lacks
+
+pub any_item_fine : (guest asid : ℕ) (archive : Archive) (guests : List GuestSpec) (memory : Memory) (frames : ℕ) (view : View) (part : ActorPart) (role : Role) (item : Item) → IsNoSealing role item
     → ItemFine guest asid archive guests memory frames view part role item
-processor_item_fine guest asid archive guests memory frames view part =
+any_item_fine guest asid archive guests memory frames view part =
     by_item (ItemFine guest asid archive guests memory frames view part)
     (validate_item guest asid archive guests memory frames view part)
     (adjust_item guest asid archive guests memory frames view part)
+    (command_item guest asid archive guests memory frames view part)
     (λ role item known before owns whole tested walking lacks. item_fine guest asid archive guests memory frames view part role item before owns known whole tested)
 
 -- and to pages of 2 MB
@@ -83,13 +96,17 @@ unfolding AreItemLocks item_move
 adjust_item_large m part owner vmpl npt paging address size target mask vmsa tested locks whole =
     adjust_large m.frames m.guests (view_of m) part (record { guest = owner; vmpl = vmpl; npt = npt; paging = paging }) address size target mask vmsa tested.lock whole
 
-pub processor_item_large : (m : State) (part : ActorPart) (role : Role) (item : Item) → IsNoCommand role item → ItemLarge m part role item
-processor_item_large m part =
-    by_item (ItemLarge m part) (validate_item_large m part) (adjust_item_large m part) (λ role item known tested locks whole. item_large m part role item known tested locks whole)
+command_item_large : (m : State) (part : ActorPart) (command : Command) → sealing_of command ≡ None → ItemLarge m part Firmware (items.Firmware command)
+unfolding AreItemLocks item_move
+command_item_large m part command plain tested locks whole = command_large m.frames m.guests (view_of m) part command plain tested whole
 
-pub processor_step_large : (m : State) (actor : ℕ) → KeepsLocks m → IsWalking m.frames (part_of m actor) → IsNoCommand (part_of m actor).role (line_at (part_of m actor).script (part_of m actor).item).item
+pub any_item_large : (m : State) (part : ActorPart) (role : Role) (item : Item) → IsNoSealing role item → ItemLarge m part role item
+any_item_large m part =
+    by_item (ItemLarge m part) (validate_item_large m part) (adjust_item_large m part) (command_item_large m part) (λ role item known tested locks whole. item_large m part role item known tested locks whole)
+
+pub any_step_large : (m : State) (actor : ℕ) → KeepsLocks m → IsWalking m.frames (part_of m actor) → IsNoSealing (part_of m actor).role (line_at (part_of m actor).script (part_of m actor).item).item
     → AreLargeWhole m.contents.pages → AreLargeWhole (after m actor).contents.pages
 unfolding after
-processor_step_large m actor keeps walking known whole =
+any_step_large m actor keeps walking known whole =
     let part = part_of m actor in
-    (processor_item_large m part part.role (line_at part.script part.item).item known (keeps.tested (actor - 1)) (move_locks m actor keeps walking) whole).large
+    (any_item_large m part part.role (line_at part.script part.item).item known (keeps.tested (actor - 1)) (move_locks m actor keeps walking) whole).large

@@ -1,15 +1,14 @@
 -- What the events of a command of the firmware do to locks: its context's, its pages', its compute and its commit.
-use Rattle.std.proofs.Common.{◌≡◌, ◌≢◌, ℕ, zero, suc, ◌+◌, ◌<◌, ◌≤◌, Bool, true, false, not, ◌&&◌, cond, eqb, List, [], ◌∷◌, ◌++◌, length, get_or, Option, Some, None, slice_get, unwrap_or, is_some, Result, Ok, Err, refl, sym, ap, ◌∙◌, subst, inl, inr, arith}
+use Rattle.std.proofs.Common.{◌≡◌, ◌≢◌, ℕ, zero, suc, ◌+◌, Bool, true, false, cond, eqb, List, [], ◌∷◌, ◌++◌, length, Option, Some, None, slice_get, unwrap_or, is_some, Result, Ok, Err, refl, sym, ap, ◌∙◌, subst, inl, inr, arith}
 use Rattle.std.proofs.lemmas.Bool.{cond_both, true≢false, eqb-true}
 use Rattle.std.proofs.lemmas.Bool.Decides.{nat_tests}
 use Rattle.std.proofs.lemmas.List.Folds.{list_any_at}
-use Rattle.std.proofs.lemmas.Option.{slice_get_within, slice_get-get_or, get_or_from_slice_get}
+use Rattle.std.proofs.lemmas.Option.{slice_get_within, get_or_from_slice_get}
 use Rattle.std.specs.List.{list_any}
 use Rattle.std.specs.Option.{option_map, option_or}
 use Rattle.snp_model.specs.declared.command.Command.{Command}
 use Rattle.snp_model.specs.declared.command.Command.TheVariants as commands
-use Rattle.snp_model.specs.declared.entry.PageSize.{PageSize}
-use Rattle.snp_model.specs.declared.entry.PageSize.TheVariants.{Small, Large}
+use Rattle.snp_model.specs.declared.entry.PageSize.TheVariants.{Small}
 use Rattle.snp_model.specs.declared.entry.RmpEntry.{RmpEntry}
 use Rattle.snp_model.specs.declared.event.Deed.TheVariants as deeds
 use Rattle.snp_model.specs.declared.event.FwRefusal.{FwRefusal}
@@ -23,7 +22,7 @@ use Rattle.snp_model.specs.declared.firmware.PageState.TheVariants as states
 use Rattle.snp_model.specs.declared.item.Item.TheVariants as items
 use Rattle.snp_model.specs.declared.scenario.Role.TheVariants.{Firmware}
 use Rattle.snp_model.specs.declared.scenario.GuestSpec.{GuestSpec}
-use Rattle.snp_model.specs.Firmware.{CommandPage, guest_of, pages_of, has_equal_frames, invalid_param, invalid_page_size}
+use Rattle.snp_model.specs.Firmware.{CommandPage, guest_of, pages_of, has_equal_frames, invalid_param}
 use Rattle.snp_model.specs.FirmwareCommits.{at_frame, at_guest, context_facts, launched_facts, metadata_facts, taken_facts, reclaim_facts, restored_facts, metadata_out_facts, given_back_facts, reclaimed_as, reclaimed_page}
 use Rattle.snp_model.specs.FirmwareLocks.{guest_refusal, frame_refusal, context_refusal, page_refusal, page_extra, unless_held, takes_large}
 use Rattle.snp_model.specs.FirmwareStep.{Phase, context_phase, pages_phase, refused, context_taken, take_context, command_asid, lock_refusal, take_page, computed_move, nothing_made, first_lock, pages_moved, pages_after, contexts_after, commit_move, phase_move, firmware_move}
@@ -33,7 +32,7 @@ use Rattle.snp_model.specs.Locks.{over_lock, covers, locks_frame, locks_context,
 use Rattle.snp_model.specs.PageStates.{state_of}
 use Rattle.snp_model.specs.Sealing.{What, GuestPage, MetadataPage, Slot, OfEntry, OfRoot, Sealing, sealing_of, compute_of, given_up, brought_back, with_slot_entry, pages_out, pages_in}
 use Rattle.snp_model.specs.State.{Page, Pages, PageLock, Context, Contexts, Computed, ActorPart, State}
-use Rattle.snp_model.specs.Verdicts.{is_large}
+use Rattle.snp_model.proofs.CommandTests.{same_some, page_tests, lock_page, has_lock}
 use Rattle.snp_model.proofs.HeldLocksLaws.{lock_freed, guest_context_freed}
 use Rattle.snp_model.proofs.LockLaws.{page_free, own_covered, not_true, context_idle, first_none, others_none}
 use Rattle.snp_model.proofs.LockedMoves.{IsFirm, firm_itself, Stands, MoveLocks, ended_locks, lock_locks, same_whole}
@@ -126,7 +125,7 @@ in_sizes : (what : What) (target : ℕ) (slot : Slot) (made : Computed) (pages :
 unfolding pages_in
 in_sizes what target slot made pages = slot_sizes slot None _ pages (at_sizes target _ pages pages (brought_back_size what _ made.words (pages target)) (same_sizes pages))
 
-reclaimed_as_size : (state : PageState) (page : Page) → (reclaimed_as state page).facts.size ≡ page.facts.size
+pub reclaimed_as_size : (state : PageState) (page : Page) → (reclaimed_as state page).facts.size ≡ page.facts.size
 unfolding reclaim_facts given_back_facts
 reclaimed_as_size states.Hypervisor page = refl
 reclaimed_as_size states.PreGuest page = refl
@@ -174,27 +173,12 @@ page_unheld : (command : Command) (part : Part) (facts : RmpEntry) (holder : Opt
 unfolding page_refusal
 page_unheld command part facts holder asid none = held_none holder _ none
 
-size_small : (size : PageSize) (takes : Bool) → takes ≡ false → (is_large size && not takes) ≡ false → size ≡ Small
-size_small Small takes small none = refl
-size_small Large true small none = absurd (true≢false small)
-size_small Large false small none = absurd (true≢false none)
-
-page_small : (command : Command) (part : Part) (facts : RmpEntry) (asid : ℕ) → page_refusal command part facts None asid ≡ None → takes_large command ≡ false → facts.size ≡ Small
-unfolding page_refusal
-page_small command part facts asid none small = size_small facts.size (takes_large command) small (let_through (is_large facts.size && not (takes_large command)) (refusals.Status invalid_page_size) _ none).fails
-
 lock_unheld : (frames asid : ℕ) (command : Command) (page : CommandPage) (found : Page) (holder : Option ℕ) → lock_refusal frames asid command page found holder ≡ None → holder ≡ None
 unfolding lock_refusal
 lock_unheld frames asid command page found holder none =
     page_unheld command page.part found.facts holder asid
     (first_none (page_refusal command page.part found.facts holder asid) (page_extra command page.part asid found.words)
     (others_none (frame_refusal frames page.frame) (option_or (page_refusal command page.part found.facts holder asid) (page_extra command page.part asid found.words)) none))
-
-lock_page : (frames asid : ℕ) (command : Command) (page : CommandPage) (found : Page) → lock_refusal frames asid command page found None ≡ None → page_refusal command page.part found.facts None asid ≡ None
-unfolding lock_refusal
-lock_page frames asid command page found none =
-    first_none (page_refusal command page.part found.facts None asid) (page_extra command page.part asid found.words)
-    (others_none (frame_refusal frames page.frame) (option_or (page_refusal command page.part found.facts None asid) (page_extra command page.part asid found.words)) none)
 
 context_unheld : (guests : List GuestSpec) (command : Command) (guest : ℕ) (context : Context) (holder : Option ℕ) → option_or (guest_refusal guests guest) (context_refusal guests command context holder) ≡ None → holder ≡ None
 unfolding context_refusal
@@ -207,7 +191,7 @@ no_refusal (Some refusal) none = absurd cc
 no_refusal None none = refl
 
 -- a context that has no holder
-none_locks : (first : ℕ) (actors : List ActorPart) (guest : ℕ) → context_holder_from first actors guest ≡ None → (k : ℕ) → locks_context guest (actor_at actors k) ≡ false
+pub none_locks : (first : ℕ) (actors : List ActorPart) (guest : ℕ) → context_holder_from first actors guest ≡ None → (k : ℕ) → locks_context guest (actor_at actors k) ≡ false
 unfolding context_holder_from
 none_locks first [] guest none k = context_idle guest
 none_locks first (part ∷ parts) guest none zero =
@@ -218,41 +202,6 @@ none_locks first (part ∷ parts) guest none (suc k) =
     (elim (locks_context guest part) as (λ (b : Bool). cond b (Some first) (context_holder_from (first + 1) parts guest) ≡ None → context_holder_from (first + 1) parts guest ≡ None)
     [ true ↦ λ e. absurd cc | false ↦ λ e. e ] none) k
 
--- what all pages of a command are, once each is locked
-
-past_from : {X : Type 0} (xs : List X) (i : ℕ) → slice_get xs i ≡ None → length xs ≤ i
-past_from [] i none = omega arith
-past_from (x ∷ xs) zero none = absurd cc
-past_from (x ∷ xs) (suc i) none = let rest = past_from xs i none in omega arith
-
--- the lock of a command's page, by its number
-record HasLock (m : State) (part : ActorPart) (command : Command) (number : ℕ) (page : CommandPage) : Type 0 where
-  lock : PageLock
-  lock_is : slice_get part.standing.locks number ≡ Some lock
-  covers_page : lock ≡ page_lock (m.contents.pages page.frame).facts.size page.frame
-  passes : lock_refusal m.frames (command_asid m.guests command) command page (m.contents.pages page.frame) None ≡ None
-
-same_some : {X : Type 0} (x y : X) → Some x ≡ Some y → x ≡ y
-same_some x y e = cc
-
-has_lock : (m : State) (part : ActorPart) (command : Command) (number : ℕ) (page : CommandPage) → AreCommandLocks m.frames m.guests m.contents command part.standing
-    → slice_get (pages_of command) (length part.standing.locks) ≡ None → slice_get (pages_of command) number ≡ Some page → HasLock m part command number page
-has_lock m part command number page tested all is =
-    let locks = part.standing.locks in
-    let within : number < length (pages_of command) = slice_get_within (pages_of command) number page is in
-    let most : length (pages_of command) ≤ length locks = past_from (pages_of command) (length locks) all in
-    let no_lock = page_lock Small 0 in
-    let lock = get_or locks number no_lock in
-    let found = slice_get-get_or locks number no_lock (omega arith) in
-    let of = tested.pages number lock found in
-    let same : of.page ≡ page = same_some of.page page (sym of.page_is ∙ is) in
-    record {
-      lock = lock;
-      lock_is = found;
-      covers_page = of.covers ∙ ap (λ (p : CommandPage). page_lock (m.contents.pages p.frame).facts.size p.frame) same;
-      passes = subst (λ (p : CommandPage). lock_refusal m.frames (command_asid m.guests command) command p (m.contents.pages p.frame) None ≡ None) same of.passes;
-    }
-
 -- a frame that isn't locked is none of them
 pub covers_at : (f : ℕ) (locks : List PageLock) (number : ℕ) (lock : PageLock) → slice_get locks number ≡ Some lock → covers f lock ≡ true → list_any (covers f) locks ≡ true
 covers_at f locks number lock is inside =
@@ -261,7 +210,7 @@ covers_at f locks number lock is inside =
 beside_pages : (m : State) (part : ActorPart) (command : Command) (f : ℕ) → AreCommandLocks m.frames m.guests m.contents command part.standing
     → slice_get (pages_of command) (length part.standing.locks) ≡ None → locks_frame f part ≡ false → IsBeside f (pages_of command)
 beside_pages m part command f tested all free number page is same =
-    let has = has_lock m part command number page tested all is in
+    let has = has_lock m.frames m.guests m.contents command part.standing number page tested all is in
     let inside : covers page.frame has.lock ≡ true = subst (λ (l : PageLock). covers page.frame l ≡ true) (sym has.covers_page) (own_covered (m.contents.pages page.frame).facts.size page.frame) in
     true≢false (sym (subst (λ (k : ℕ). locks_frame k part ≡ true) same (covers_at page.frame part.standing.locks number has.lock has.lock_is inside)) ∙ free)
 
@@ -302,7 +251,7 @@ reclaim_lock : (m : State) (part : ActorPart) (command : Command) (f frame : ℕ
 unfolding pages_of
 reclaim_lock m part command f frame tested all free is =
     let first : slice_get (pages_of command) 0 ≡ Some (record { part = Target; frame = frame }) = ap (λ (c : Command). slice_get (pages_of c) 0) is in
-    let has = has_lock m part command 0 (record { part = Target; frame = frame }) tested all first in
+    let has = has_lock m.frames m.guests m.contents command part.standing 0 (record { part = Target; frame = frame }) tested all first in
     let lock_is : first_lock part.standing.locks frame ≡ has.lock = get_or_from_slice_get part.standing.locks 0 has.lock (page_lock Small frame) has.lock_is in
     ap (covers f) lock_is ∙ not_covered f part.standing.locks 0 has.lock has.lock_is free
 
@@ -320,10 +269,10 @@ unfolding pages_of
 moves_within m part command tested all guest source target is =
     let asid = command_asid m.guests command in
     let small : takes_large command ≡ false = ap takes_large is in
-    let one = has_lock m part command 0 (record { part = Source; frame = source }) tested all (ap (λ (c : Command). slice_get (pages_of c) 0) is) in
-    let two = has_lock m part command 1 (record { part = Target; frame = target }) tested all (ap (λ (c : Command). slice_get (pages_of c) 1) is) in
-    page_small command Source (m.contents.pages source).facts asid (lock_page m.frames asid command (record { part = Source; frame = source }) (m.contents.pages source) one.passes) small
-    ∙ sym (page_small command Target (m.contents.pages target).facts asid (lock_page m.frames asid command (record { part = Target; frame = target }) (m.contents.pages target) two.passes) small)
+    let one = has_lock m.frames m.guests m.contents command part.standing 0 (record { part = Source; frame = source }) tested all (ap (λ (c : Command). slice_get (pages_of c) 0) is) in
+    let two = has_lock m.frames m.guests m.contents command part.standing 1 (record { part = Target; frame = target }) tested all (ap (λ (c : Command). slice_get (pages_of c) 1) is) in
+    (page_tests command Source (m.contents.pages source).facts asid (lock_page m.frames asid command (record { part = Source; frame = source }) m.contents one.passes)).small small
+    ∙ sym ((page_tests command Target (m.contents.pages target).facts asid (lock_page m.frames asid command (record { part = Target; frame = target }) m.contents two.passes)).small small)
 
 commit_locks : (m : State) (part : ActorPart) (command : Command) → Stands m part Firmware (items.Firmware command) → AreCommandLocks m.frames m.guests m.contents command part.standing
     → slice_get (pages_of command) (length part.standing.locks) ≡ None → ContextHeld part command

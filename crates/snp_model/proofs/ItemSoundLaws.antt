@@ -1,10 +1,13 @@
 -- An item that a line can make is one that its actor's role may have: each row of items keeps the bounds.
-use Rattle.std.proofs.Common.{◌≡◌, ℕ, ◌+◌, ◌*◌, ◌%◌, ◌^◌, ◌<◌, Bool, cond, List, Result, Ok, Err, refl, ap, ◌∙◌, subst, arith}
+use Rattle.std.proofs.Common.{◌≡◌, ℕ, ◌+◌, ◌*◌, ◌%◌, ◌^◌, ◌<◌, Bool, cond, List, [], ◌∷◌, Result, Ok, Err, refl, ap, ◌∙◌, subst, arith}
 use Rattle.std.specs.Prelude.{codes, length, ◌==◌}
 use Rattle.snp_model.specs.declared.entry.PageSize.{PageSize}
 use Rattle.snp_model.specs.declared.reading.Reason.{Reason}
 use Rattle.snp_model.specs.declared.reading.Reason.TheVariants.{Form}
+use Rattle.snp_model.specs.declared.command.Command.{Command}
+use Rattle.snp_model.specs.declared.command.Command.TheVariants as commands
 use Rattle.snp_model.specs.declared.item.Item.{Item}
+use Rattle.snp_model.specs.declared.item.Item.TheVariants as items
 use Rattle.snp_model.specs.declared.item.Item.TheVariants.{Access, Psmash, Pvalidate, Rmpadjust, Rmpupdate, Skip}
 use Rattle.snp_model.specs.declared.item.Line.{Line}
 use Rattle.snp_model.specs.declared.item.Op.{Op}
@@ -15,8 +18,8 @@ use Rattle.snp_model.specs.declared.item.Update.{Update}
 use Rattle.snp_model.specs.declared.scenario.Paging.{Paging}
 use Rattle.snp_model.specs.declared.scenario.Role.{Role}
 use Rattle.snp_model.specs.declared.scenario.Role.TheVariants.{Cpu, Host, Firmware}
-use Rattle.snp_model.specs.Bounds.{IsCpuItem, IsSkip, IsUpdate, IsItemOf, IsLineOf}
-use Rattle.snp_model.specs.ItemLines.{once, address_word, load_row, store_row, swap_row, cas_row, xor_row, skip_test, skip_row, skip_value_row, skip_item, access_item, size_word, flag_word, is_retry_row, retries_word, update_operands, update_row, smash_row, validate_row, adjust_operands, adjust_row, cpu_item, host_item, item_words}
+use Rattle.snp_model.specs.Bounds.{IsCpuItem, IsFirmwareCommand, IsGuestNumber, IsSkip, IsUpdate, IsItemOf, IsLineOf}
+use Rattle.snp_model.specs.ItemLines.{once, address_word, load_row, store_row, swap_row, cas_row, xor_row, skip_test, skip_row, skip_value_row, skip_item, access_item, size_word, flag_word, is_retry_row, retries_word, update_operands, update_row, smash_row, validate_row, adjust_operands, adjust_row, cpu_item, host_item, guest_word, create_operands, activate_operands, start_operands, launch_operands, finish_operands, init_operands, move_operands, reclaim_operands, command_row, firmware_item, item_words}
 use Rattle.snp_model.specs.Lines.{◌>>=◌, ◌>>◌, below, fixed, is_row, multiple, number, ranged, word}
 use Rattle.snp_model.proofs.LineLaws.{below_multiple_ok, below_ok, bind_ok, multiple_ok, ranged_ok, select, then_ok}
 
@@ -240,7 +243,121 @@ cpu_item_ok frames guest vmpl npt paging ws line h =
     (λ _ h1. select (is_retry_row ws (codes "rmpadjust") 6) (adjust_row ws) (access_item role frames ws) line P (λ _ made. adjust_row_ok frames guest vmpl npt paging ws line made)
     (λ _ h2. access_item_ok frames role ws line h2) h1) h
 
+-- the guest of a command is one that may or may not be declared
+guest_word_ok : (w : List ℕ) (guest : ℕ) → guest_word w ≡ Ok guest → IsGuestNumber guest
+unfolding guest_word
+guest_word_ok w guest h = ranged_ok 1 8 w guest h
+
+create_ok : (ws : List (List ℕ)) (command : Command) → create_operands ws ≡ Ok command → IsFirmwareCommand command
+unfolding create_operands
+create_ok ws command h =
+    let guest = bind_ok (guest_word (word ws 1)) (λ (g : ℕ). number (word ws 2) >>= (λ (f : ℕ). Ok (commands.GctxCreate g f))) command h in
+    let frame = bind_ok (number (word ws 2)) (λ (f : ℕ). Ok (commands.GctxCreate guest.0 f)) command guest.2 in
+    let same : commands.GctxCreate guest.0 frame.0 ≡ command = let e = frame.2 in cc in
+    subst IsFirmwareCommand same (guest_word_ok (word ws 1) guest.0 guest.1)
+
+activate_ok : (ws : List (List ℕ)) (command : Command) → activate_operands ws ≡ Ok command → IsFirmwareCommand command
+unfolding activate_operands
+activate_ok ws command h =
+    let guest = bind_ok (guest_word (word ws 1)) (λ (g : ℕ). below 1024 (word ws 2) >>= (λ (a : ℕ). Ok (commands.Activate g a))) command h in
+    let asid = bind_ok (below 1024 (word ws 2)) (λ (a : ℕ). Ok (commands.Activate guest.0 a)) command guest.2 in
+    let same : commands.Activate guest.0 asid.0 ≡ command = let e = asid.2 in cc in
+    subst IsFirmwareCommand same (guest_word_ok (word ws 1) guest.0 guest.1, below_ok 1024 (word ws 2) asid.0 asid.1)
+
+start_ok : (ws : List (List ℕ)) (command : Command) → start_operands ws ≡ Ok command → IsFirmwareCommand command
+unfolding start_operands
+start_ok ws command h =
+    let guest = bind_ok (guest_word (word ws 1)) (λ (g : ℕ). Ok (commands.LaunchStart g)) command h in
+    let same : commands.LaunchStart guest.0 ≡ command = let e = guest.2 in cc in
+    subst IsFirmwareCommand same (guest_word_ok (word ws 1) guest.0 guest.1)
+
+launch_chain : (guest frame page_type : Result ℕ Reason) (imi : Result Bool Reason) (x y z : Result ℕ Reason) (command : Command)
+    → ((n : ℕ) → guest ≡ Ok n → IsGuestNumber n) → ((n : ℕ) → page_type ≡ Ok n → n < 256)
+    → ((n : ℕ) → x ≡ Ok n → n < 16) → ((n : ℕ) → y ≡ Ok n → n < 16) → ((n : ℕ) → z ≡ Ok n → n < 16)
+    → (guest >>= (λ (g : ℕ). frame >>= (λ (f : ℕ). page_type >>= (λ (t : ℕ). imi >>= (λ (b : Bool). x >>= (λ (i : ℕ). y >>= (λ (j : ℕ). z >>= (λ (k : ℕ). Ok (commands.LaunchUpdate g f t b (i ∷ j ∷ k ∷ [])))))))))) ≡ Ok command
+    → IsFirmwareCommand command
+launch_chain (Err e) frame page_type imi x y z command b1 b2 b3 b4 b5 h = absurd (cc)
+launch_chain (Ok g) (Err e) page_type imi x y z command b1 b2 b3 b4 b5 h = absurd (cc)
+launch_chain (Ok g) (Ok f) (Err e) imi x y z command b1 b2 b3 b4 b5 h = absurd (cc)
+launch_chain (Ok g) (Ok f) (Ok t) (Err e) x y z command b1 b2 b3 b4 b5 h = absurd (cc)
+launch_chain (Ok g) (Ok f) (Ok t) (Ok b) (Err e) y z command b1 b2 b3 b4 b5 h = absurd (cc)
+launch_chain (Ok g) (Ok f) (Ok t) (Ok b) (Ok i) (Err e) z command b1 b2 b3 b4 b5 h = absurd (cc)
+launch_chain (Ok g) (Ok f) (Ok t) (Ok b) (Ok i) (Ok j) (Err e) command b1 b2 b3 b4 b5 h = absurd (cc)
+launch_chain (Ok g) (Ok f) (Ok t) (Ok b) (Ok i) (Ok j) (Ok k) command b1 b2 b3 b4 b5 h =
+    let same : commands.LaunchUpdate g f t b (i ∷ j ∷ k ∷ []) ≡ command = cc in
+    subst IsFirmwareCommand same (b1 g refl, b2 t refl, record { three = refl; below = (b3 i refl, (b4 j refl, (b5 k refl, tt))) })
+
+launch_ok : (ws : List (List ℕ)) (command : Command) → launch_operands ws ≡ Ok command → IsFirmwareCommand command
+unfolding launch_operands
+launch_ok ws command h =
+    launch_chain (guest_word (word ws 1)) (number (word ws 2)) (below 256 (word ws 3)) (flag_word (word ws 4)) (below 16 (word ws 5)) (below 16 (word ws 6)) (below 16 (word ws 7)) command
+    (guest_word_ok _) (below_ok _ _) (below_ok _ _) (below_ok _ _) (below_ok _ _) h
+
+finish_ok : (ws : List (List ℕ)) (command : Command) → finish_operands ws ≡ Ok command → IsFirmwareCommand command
+unfolding finish_operands
+finish_ok ws command h =
+    let guest = bind_ok (guest_word (word ws 1)) (λ (g : ℕ). Ok (commands.LaunchFinish g)) command h in
+    let same : commands.LaunchFinish guest.0 ≡ command = let e = guest.2 in cc in
+    subst IsFirmwareCommand same (guest_word_ok (word ws 1) guest.0 guest.1)
+
+init_ok : (ws : List (List ℕ)) (command : Command) → init_operands ws ≡ Ok command → IsFirmwareCommand command
+unfolding init_operands
+init_ok ws command h =
+    let frame = bind_ok (number (word ws 1)) (λ (f : ℕ). Ok (commands.MdInit f)) command h in
+    let same : commands.MdInit frame.0 ≡ command = let e = frame.2 in cc in
+    subst IsFirmwareCommand same tt
+
+move_ok : (ws : List (List ℕ)) (command : Command) → move_operands ws ≡ Ok command → IsFirmwareCommand command
+unfolding move_operands
+move_ok ws command h =
+    let guest = bind_ok (guest_word (word ws 1)) (λ (g : ℕ). number (word ws 2) >>= (λ (f : ℕ). number (word ws 3) >>= (λ (t : ℕ). Ok (commands.PageMove g f t)))) command h in
+    let source = bind_ok (number (word ws 2)) (λ (f : ℕ). number (word ws 3) >>= (λ (t : ℕ). Ok (commands.PageMove guest.0 f t))) command guest.2 in
+    let target = bind_ok (number (word ws 3)) (λ (t : ℕ). Ok (commands.PageMove guest.0 source.0 t)) command source.2 in
+    let same : commands.PageMove guest.0 source.0 target.0 ≡ command = let e = target.2 in cc in
+    subst IsFirmwareCommand same (guest_word_ok (word ws 1) guest.0 guest.1)
+
+reclaim_ok : (ws : List (List ℕ)) (command : Command) → reclaim_operands ws ≡ Ok command → IsFirmwareCommand command
+unfolding reclaim_operands
+reclaim_ok ws command h =
+    let frame = bind_ok (number (word ws 1)) (λ (f : ℕ). Ok (commands.Reclaim f)) command h in
+    let same : commands.Reclaim frame.0 ≡ command = let e = frame.2 in cc in
+    subst IsFirmwareCommand same tt
+
+-- a row of a command is an item of a firmware actor
+command_row_ok : (frames : ℕ) (ws : List (List ℕ)) (count : ℕ) (operands : Result Command Reason) (line : Line)
+    → ((command : Command) → operands ≡ Ok command → IsFirmwareCommand command) → command_row ws count operands ≡ Ok line → IsLineOf frames Firmware line
+unfolding command_row
+command_row_ok frames ws count operands line are h =
+    let command = bind_ok operands (λ (c : Command). retries_word ws count >>= (λ (n : ℕ). Ok (let l : Line = record { item = items.Firmware c; retries = n } in l))) line h in
+    let retries = bind_ok (retries_word ws count) (λ (n : ℕ). Ok (let l : Line = record { item = items.Firmware command.0; retries = n } in l)) line command.2 in
+    let made : Line = record { item = items.Firmware command.0; retries = retries.0 } in
+    let same : made ≡ line = let e = retries.2 in cc in
+    subst (IsLineOf frames Firmware) same (record { item = are command.0 command.1; retries = retries_ok ws count retries.0 retries.1 })
+
+firmware_item_ok : (frames : ℕ) (ws : List (List ℕ)) (line : Line) → firmware_item ws ≡ Ok line → IsLineOf frames Firmware line
+unfolding firmware_item
+firmware_item_ok frames ws line h =
+    let P = IsLineOf frames Firmware line in
+    let row : List ℕ → ℕ → Result Command Reason → Result Line Reason → Result Line Reason = λ name count operands other. cond (is_retry_row ws name count) (command_row ws count operands) other in
+    let reclaim = row (codes "page_reclaim") 2 (reclaim_operands ws) (skip_item ws) in
+    let move = row (codes "page_move") 4 (move_operands ws) reclaim in
+    let init = row (codes "md_init") 2 (init_operands ws) move in
+    let finish = row (codes "launch_finish") 2 (finish_operands ws) init in
+    let update = row (codes "launch_update") 8 (launch_operands ws) finish in
+    let start = row (codes "launch_start") 2 (start_operands ws) update in
+    let activate = row (codes "activate") 3 (activate_operands ws) start in
+    let is : (count : ℕ) (operands : Result Command Reason) → ((command : Command) → operands ≡ Ok command → IsFirmwareCommand command) → command_row ws count operands ≡ Ok line → P = λ count operands are made. command_row_ok frames ws count operands line are made in
+    select (is_retry_row ws (codes "gctx_create") 3) (command_row ws 3 (create_operands ws)) activate line P (λ _ made. is 3 (create_operands ws) (create_ok ws) made)
+    (λ _ h1. select (is_retry_row ws (codes "activate") 3) (command_row ws 3 (activate_operands ws)) start line P (λ _ made. is 3 (activate_operands ws) (activate_ok ws) made)
+    (λ _ h2. select (is_retry_row ws (codes "launch_start") 2) (command_row ws 2 (start_operands ws)) update line P (λ _ made. is 2 (start_operands ws) (start_ok ws) made)
+    (λ _ h3. select (is_retry_row ws (codes "launch_update") 8) (command_row ws 8 (launch_operands ws)) finish line P (λ _ made. is 8 (launch_operands ws) (launch_ok ws) made)
+    (λ _ h4. select (is_retry_row ws (codes "launch_finish") 2) (command_row ws 2 (finish_operands ws)) init line P (λ _ made. is 2 (finish_operands ws) (finish_ok ws) made)
+    (λ _ h5. select (is_retry_row ws (codes "md_init") 2) (command_row ws 2 (init_operands ws)) move line P (λ _ made. is 2 (init_operands ws) (init_ok ws) made)
+    (λ _ h6. select (is_retry_row ws (codes "page_move") 4) (command_row ws 4 (move_operands ws)) reclaim line P (λ _ made. is 4 (move_operands ws) (move_ok ws) made)
+    (λ _ h7. select (is_retry_row ws (codes "page_reclaim") 2) (command_row ws 2 (reclaim_operands ws)) (skip_item ws) line P (λ _ made. is 2 (reclaim_operands ws) (reclaim_ok ws) made)
+    (λ _ h8. skip_item_ok frames Firmware ws line h8) h7) h6) h5) h4) h3) h2) h1) h
+
 pub item_ok : (frames : ℕ) (role : Role) (ws : List (List ℕ)) (line : Line) → item_words role frames ws ≡ Ok line → IsLineOf frames role line
 item_ok frames (Cpu guest vmpl npt paging) ws line h = cpu_item_ok frames guest vmpl npt paging ws line h
 item_ok frames Host ws line h = host_item_ok frames ws line h
-item_ok frames Firmware ws line h = skip_item_ok frames Firmware ws line h
+item_ok frames Firmware ws line h = firmware_item_ok frames ws line h

@@ -40,7 +40,7 @@ whole_page pages whole frame large = record { aligned = whole.aligned frame larg
 pub base_region : (f : ℕ) → AreOfOneRegion f (page_base Large f)
 base_region f = omega arith
 
-one_page_same : (old new : Pages) (f g : ℕ) → (new f).facts ≡ (old f).facts → (new g).facts ≡ (old g).facts → AreOfOnePage old f g → AreOfOnePage new f g
+pub one_page_same : (old new : Pages) (f g : ℕ) → (new f).facts ≡ (old f).facts → (new g).facts ≡ (old g).facts → AreOfOnePage old f g → AreOfOnePage new f g
 one_page_same old new f g at_f at_g page = record {
   follow = ap (λ (x : RmpEntry). x.gpn + f) at_g ∙ page.follow ∙ ap (λ (x : RmpEntry). x.gpn + g) (sym at_f);
   alike = at_g ∙ page.alike
@@ -276,7 +276,7 @@ smashed_small : (lock : PageLock) (pages : Pages) (f : ℕ) → covers f lock �
 unfolding pages_smashed
 smashed_small lock pages f inside = rw inside refl
 
-beside_page : (frame f g : ℕ) → covers f (page_lock Large frame) ≡ false → AreOfOneRegion f g → covers g (page_lock Large frame) ≡ false
+pub beside_page : (frame f g : ℕ) → covers f (page_lock Large frame) ≡ false → AreOfOneRegion f g → covers g (page_lock Large frame) ≡ false
 beside_page frame f g beside same =
     by_range (covers g (page_lock Large frame)) (covers g (page_lock Large frame) ≡ false)
     (λ there. absurd (true≢false (sym (region_page frame f (page_region frame g there ∙ sym same)) ∙ beside))) (λ out. out)

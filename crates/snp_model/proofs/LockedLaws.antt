@@ -1,5 +1,5 @@
 -- In every state of a run no frame and no context is locked by two actors, what a lock has tested still holds, and what is locked stays as it is.
-use Rattle.std.proofs.Common.{◌≡◌, ◌≢◌, ℕ, zero, suc, ◌+◌, ◌-◌, ◌<◌, ◌≤◌, Bool, true, false, not, ◌&&◌, ◌||◌, cond, eqb, List, [], ◌∷◌, length, set, Option, Some, None, refl, sym, ap, ◌∙◌, subst, ⊎_elim, arith}
+use Rattle.std.proofs.Common.{◌≡◌, ◌≢◌, ℕ, zero, suc, ◌+◌, ◌-◌, ◌<◌, ◌≤◌, Bool, true, false, not, ◌||◌, cond, eqb, List, [], ◌∷◌, length, set, Option, Some, None, refl, sym, ap, ◌∙◌, subst, ⊎_elim, arith}
 use Rattle.std.proofs.lemmas.Bool.{cases_eq, cases_lt, true≢false}
 use Rattle.std.proofs.lemmas.Bool.Decides.{nat_tests}
 use Rattle.std.proofs.lemmas.List.{get_or-set_same, get_or-set_other, set_past}
@@ -14,7 +14,6 @@ use Rattle.snp_model.specs.declared.event.Deed.{Deed}
 use Rattle.snp_model.specs.declared.event.Deed.TheVariants as deeds
 use Rattle.snp_model.specs.declared.event.Outcome.{Outcome}
 use Rattle.snp_model.specs.declared.event.Outcome.TheVariants as outcomes
-use Rattle.snp_model.specs.declared.event.FwRefusal.TheVariants as refusals
 use Rattle.snp_model.specs.declared.firmware.PageState.{PageState}
 use Rattle.snp_model.specs.declared.firmware.PageState.TheVariants as states
 use Rattle.snp_model.specs.declared.firmware.Part.{Part}
@@ -27,8 +26,8 @@ use Rattle.snp_model.specs.declared.scenario.GuestSpec.{GuestSpec}
 use Rattle.snp_model.specs.declared.scenario.Role.{Role}
 use Rattle.snp_model.specs.declared.scenario.Role.TheVariants.{Cpu, Host, Firmware}
 use Rattle.snp_model.specs.Facts.{frames_in}
-use Rattle.snp_model.specs.Firmware.{CommandPage, invalid_page_size, invalid_page_state}
-use Rattle.snp_model.specs.FirmwareLocks.{guest_refusal, context_refusal, frame_refusal, page_refusal, page_extra, source_refusal, entry_refusal, owned_refusal, out_entry_refusal, in_entry_refusal, takes_large}
+use Rattle.snp_model.specs.Firmware.{CommandPage}
+use Rattle.snp_model.specs.FirmwareLocks.{guest_refusal, context_refusal, frame_refusal, page_refusal, page_extra, source_refusal, entry_refusal, owned_refusal, out_entry_refusal, in_entry_refusal}
 use Rattle.snp_model.specs.FirmwareStep.{command_asid, lock_refusal}
 use Rattle.snp_model.specs.HeldLocks.{PageTest, IsUpdateLock, IsSmashLock, IsWalkedLock, AreCommandLocks, IsOneLock, AreInstructionLocks, AreItemLocks}
 use Rattle.snp_model.specs.InstructionStep.{facts_of, page_place}
@@ -42,15 +41,14 @@ use Rattle.snp_model.specs.PageStates.{state_of, firmware_state, is_metadata, al
 use Rattle.snp_model.specs.RmpUpdate.{update_lock, update_refusal, is_bad_update, smash_refusal}
 use Rattle.snp_model.specs.State.{Page, PageLock, Context, Contents, Standing, nothing_taken, ActorPart, State, part_of, idle_part}
 use Rattle.snp_model.specs.Step.{item_move, host_access, line_at, part_after, after}
-use Rattle.snp_model.specs.Verdicts.{is_large}
 use Rattle.snp_model.specs.Walking.{Processor}
+use Rattle.snp_model.proofs.CommandTests.{page_tests}
 use Rattle.snp_model.proofs.FirmwareLocked.{covers_at, held_context, firmware_locks}
 use Rattle.snp_model.proofs.InstructionLocality.{update_range_same}
 use Rattle.snp_model.proofs.LockLaws.{Grows, exclusive_after, own_covered, not_true, first_none, others_none}
 use Rattle.snp_model.proofs.LockedItems.{update_locks, smash_locks}
 use Rattle.snp_model.proofs.LockedMoves.{IsFirm, Stands, MoveLocks, ended_locks, access_locks}
 use Rattle.snp_model.proofs.LockedWalks.{cpu_access_locks, validate_locks, adjust_locks}
-use Rattle.snp_model.proofs.TestedLaws.{let_through, not_false}
 use Rattle.snp_model.proofs.UseLaws.{host_holds_none}
 
 -- each item's event
@@ -229,19 +227,12 @@ metadata_firm facts is =
     (cond facts.immutable (cond facts.validated states.PreSwap states.PreGuest) (cond facts.validated states.GuestValid states.GuestInvalid)))) ≡ true → (assigned ≡ true) × (facts.immutable ≡ true))
     [ true ↦ λ e. (refl, firm_state facts.immutable (eqb facts.asid 0) facts.validated facts.kind e) | false ↦ λ e. absurd (true≢false (sym e)) ] is
 
--- what was allowed when a page was locked
-page_allowed : (command : Command) (part : Part) (facts : RmpEntry) (asid : ℕ) → page_refusal command part facts None asid ≡ None → allowed command part (state_of facts) ≡ true
-unfolding page_refusal
-page_allowed command part facts asid none =
-    let size = let_through (is_large facts.size && not (takes_large command)) (refusals.Status invalid_page_size) _ none in
-    not_false (allowed command part (state_of facts)) (let_through (not (allowed command part (state_of facts))) (refusals.Status invalid_page_state) _ size.after_it).fails
-
 page_kept : (frames asid : ℕ) (command : Command) (page : CommandPage) (old new : Page) → IsFirm new old → lock_refusal frames asid command page old None ≡ None → lock_refusal frames asid command page new None ≡ None
 unfolding lock_refusal
 page_kept frames asid command page old new firm none =
     let rest = others_none (frame_refusal frames page.frame) (option_or (page_refusal command page.part old.facts None asid) (page_extra command page.part asid old.words)) none in
     let of_page = first_none (page_refusal command page.part old.facts None asid) (page_extra command page.part asid old.words) rest in
-    let state = page_allowed command page.part old.facts asid of_page in
+    let state = (page_tests command page.part old.facts asid of_page).state in
     let words = extra_same command page.part asid (state_of old.facts) old.words new.words state (λ metadata. let is = metadata_firm old.facts metadata in sym (firm.words is.0 is.1)) in
     ap (option_or (frame_refusal frames page.frame))
     (ap (λ (facts : RmpEntry). option_or (page_refusal command page.part facts None asid) (page_extra command page.part asid new.words)) firm.facts

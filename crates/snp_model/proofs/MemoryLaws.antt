@@ -137,7 +137,7 @@ with_frames_keeps words n frame gpn memory q outside =
     get_with_frames words n frame gpn memory q ∙ cond-false (in_range gpn n q) _ _ outside
 
 -- and all its words are known
-map_some_at : (ws : List ℕ) (j word : ℕ) → get_or (map Some ws) j None ≡ Some word → get_or ws j 0 ≡ word
+pub map_some_at : (ws : List ℕ) (j word : ℕ) → get_or (map Some ws) j None ≡ Some word → get_or ws j 0 ≡ word
 map_some_at [] j word e = absurd cc
 map_some_at (w ∷ ws) zero word e = cc
 map_some_at (w ∷ ws) (suc j) word e = map_some_at ws j word e

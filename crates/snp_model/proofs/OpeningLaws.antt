@@ -231,7 +231,8 @@ opening_plain guests lines f = facts_plain guests lines (λ _. free_entry) (λ _
 
 pub opening_fits : (guests : List GuestSpec) (lines : List PageSpec) (words : ℕ → List ℕ) → AreFit (pages_with (facts_from guests (λ _. free_entry) lines) words)
 opening_fits guests lines words f =
-    record { assigned = λ other. absurd (other (opening_plain guests lines f)); immutable = λ other. absurd (other (opening_plain guests lines f)) }
+    let plain = opening_plain guests lines f in
+    record { assigned = λ other. absurd (other plain); immutable = λ other. absurd (other plain); no_guest = λ other. absurd (other plain) }
 
 -- and no entry is live
 pub no_root : (spec : Option GuestSpec) → (opening_context spec).root ≡ None

@@ -1,8 +1,7 @@
 -- What every run of a valid scenario keeps, whatever the guest is: locks and what they have tested, and pages of 2 MB as a whole.
-use Rattle.std.proofs.Common.{◌≡◌, ◌≢◌, ℕ, zero, suc, ◌-◌, ◌<◌, List, [], ◌∷◌, length, map, get_or, None, sym, ◌∙◌, arith}
+use Rattle.std.proofs.Common.{◌≡◌, ◌≢◌, ℕ, zero, suc, ◌-◌, ◌<◌, ◌≤◌, List, [], ◌∷◌, length, map, get_or, None, arith}
 use Rattle.std.specs.FinMap.{empty}
 use Rattle.std.specs.List.{AllByRecursion}
-use Rattle.std.proofs.lemmas.Bool.{true≢false}
 use Rattle.snp_model.specs.declared.entry.PageSize.TheVariants.{Large}
 use Rattle.snp_model.specs.declared.entry.RmpEntry.{RmpEntry}
 use Rattle.snp_model.specs.declared.scenario.Actor.{Actor}
@@ -22,64 +21,66 @@ use Rattle.snp_model.specs.Shapes.{AreFactsOf, IsWholePage}
 use Rattle.snp_model.specs.Sound.{IsGuest, IsActor, IsSound}
 use Rattle.snp_model.specs.State.{Pages, idle_part, zero_words}
 use Rattle.snp_model.proofs.CoreLaws.{KindFits, FrameCore, frames_core}
-use Rattle.snp_model.proofs.GuestMemoryLaws.{Keeps, actors_no_commands, opening_large, opening_locks}
+use Rattle.snp_model.proofs.GuestMemoryLaws.{Keeps, actors_no_sealings, opening_large, opening_locks}
 use Rattle.snp_model.proofs.LargePages.{whole_page}
 use Rattle.snp_model.proofs.LockedRuns.{IsMetadataFirm, are_locked}
 use Rattle.snp_model.proofs.OpenAttemptsLaws.{opening_walking}
 use Rattle.snp_model.proofs.OpeningLaws.{opening_whole, opening_fits, opening_dead}
 use Rattle.snp_model.proofs.OpeningParts.{opening_shaped}
 use Rattle.snp_model.proofs.UnownedLaws.{unowned_keeps, opening_others}
-use Rattle.snp_model.proofs.UseLaws.{RoleOwns, metadata_not_plain}
+use Rattle.snp_model.proofs.UseLaws.{Owns, RoleOwns, metadata_not_plain}
 
--- nobody is guest 0, and ASID 0 is nobody's: of it no page is ever held
+-- nobody is guest 0, and this ASID is nobody's: of it no page is ever held
+abbrev no_asid : ℕ
+no_asid = 0x1_0000
 
-asid_some : (guests : List GuestSpec) (k : ℕ) → AllByRecursion IsGuest guests → k < length guests → get_or (map (λ (spec : GuestSpec). spec.asid) guests) k 0 ≢ 0
-asid_some [] k are within = absurd (omega arith)
-asid_some (spec ∷ specs) zero are within = let some = are.0.asid_some in λ none. absurd (omega arith)
-asid_some (spec ∷ specs) (suc k) are within = asid_some specs k are.1 (omega arith)
+asid_other : (guests : List GuestSpec) (k : ℕ) → AllByRecursion IsGuest guests → k < length guests → get_or (map (λ (spec : GuestSpec). spec.asid) guests) k 0 ≢ no_asid
+asid_other [] k are within = absurd (omega arith)
+asid_other (spec ∷ specs) zero are within = let below = are.0.asid_below in λ same. absurd (omega arith)
+asid_other (spec ∷ specs) (suc k) are within = asid_other specs k are.1 (omega arith)
 
-role_owns : (guests : List GuestSpec) (frames : ℕ) (role : Role) → AllByRecursion IsGuest guests → IsRole frames (length guests) role → RoleOwns 0 0 guests role
-role_owns guests frames (Cpu owner vmpl npt paging) are is =
-    let some = is.guest_some in
-    let most = is.guest_most in
-    record { own = λ same. absurd (omega arith); other = λ different. asid_some guests (owner - 1) are (omega arith) }
+guest_owns : (guests : List GuestSpec) (owner : ℕ) → AllByRecursion IsGuest guests → 0 < owner → owner ≤ length guests → Owns 0 no_asid guests owner
+guest_owns guests owner are some most = record { own = λ same. absurd (omega arith); other = λ different. asid_other guests (owner - 1) are (omega arith) }
+
+role_owns : (guests : List GuestSpec) (frames : ℕ) (role : Role) → AllByRecursion IsGuest guests → IsRole frames (length guests) role → RoleOwns 0 no_asid guests role
+role_owns guests frames (Cpu owner vmpl npt paging) are is = guest_owns guests owner are is.guest_some is.guest_most
 role_owns guests frames Host are is = tt
-role_owns guests frames Firmware are is = tt
+role_owns guests frames Firmware are is = record { some = λ none. absurd (omega arith); each = λ owner some most. guest_owns guests owner are some most }
 
 actors_own : (guests : List GuestSpec) (frames : ℕ) (actors : List Actor) (k : ℕ) → AllByRecursion IsGuest guests → AllByRecursion (IsActor frames (length guests)) actors
-    → RoleOwns 0 0 guests (get_or (map opening_part actors) k idle_part).role
+    → RoleOwns 0 no_asid guests (get_or (map opening_part actors) k idle_part).role
 unfolding idle_part
 actors_own guests frames [] k are all = tt
 actors_own guests frames (actor ∷ actors) zero are all = role_owns guests frames actor.role are all.0.role
 actors_own guests frames (actor ∷ actors) (suc k) are all = actors_own guests frames actors k are all.1
 
-nothing_held : (facts : RmpEntry) (gpn : ℕ) → AreFactsOf facts → IsHeldAs facts 0 gpn → ⊥
-nothing_held facts gpn are h = true≢false (sym h.validated ∙ are.owned h.asid_is)
+nothing_held : (facts : RmpEntry) (gpn : ℕ) → AreFactsOf facts → IsHeldAs facts no_asid gpn → ⊥
+nothing_held facts gpn are h = let below = are.ranges.asid in let same = h.asid_is in omega arith
 
-none_core : (pages : Pages) (memory : Memory) → ((f : ℕ) → AreFactsOf (pages f).facts) → FrameCore pages 0 memory
+none_core : (pages : Pages) (memory : Memory) → ((f : ℕ) → AreFactsOf (pages f).facts) → FrameCore pages no_asid memory
 none_core pages memory are = record {
   unique = λ gpn f g hx hy. absurd (nothing_held (pages f).facts gpn (are f) hx);
   held = λ gpn f h. absurd (nothing_held (pages f).facts gpn (are f) h);
   agree = λ gpn f index word h k. absurd (nothing_held (pages f).facts gpn (are f) h);
 }
 
-opening_keeps_none : (c : Scenario) (archive : Archive) → IsSound c → Keeps 0 0 archive (opening c) empty
+opening_keeps_none : (c : Scenario) (archive : Archive) → IsSound c → Keeps 0 no_asid archive (opening c) empty
 unfolding opening
 opening_keeps_none c archive sound =
     let words = words_from (λ _. zero_words) c.words in
     record {
-      core = frames_core 0 (vault_of 0 (opening c).contents archive) empty (opening_dead c.guests 0 c.pages words 0 archive) (none_core (opening c).contents.pages empty (opening_shaped c sound).facts);
+      core = frames_core no_asid (vault_of 0 (opening c).contents archive) empty (opening_dead c.guests 0 c.pages words no_asid archive) (none_core (opening c).contents.pages empty (opening_shaped c sound).facts);
       whole = opening_whole c.words;
       fits = opening_fits c.guests c.pages words;
       owns = λ actor. actors_own c.guests _ c.actors (actor - 1) sound.guests sound.actors;
-      known = λ actor. actors_no_commands _ _ c.actors (actor - 1) sound.actors;
+      known = λ actor. actors_no_sealings _ _ c.actors (actor - 1) sound.actors;
       locks = opening_locks c sound;
       walking = opening_walking c;
       large = opening_large c sound;
     }
 
-state_keeps : (c : Scenario) (s : List ℕ) → IsSound c → IsDefined c s → Keeps 0 0 (λ _. None) (state_after c s) (memory_from 0 (opening c) empty s)
-state_keeps c s sound defined = unowned_keeps 0 0 (λ _. None) (opening c) empty s defined (opening_others c sound) (opening_keeps_none c (λ _. None) sound)
+state_keeps : (c : Scenario) (s : List ℕ) → IsSound c → IsDefined c s → Keeps 0 no_asid (λ _. None) (state_after c s) (memory_from 0 (opening c) empty s)
+state_keeps c s sound defined = unowned_keeps 0 no_asid (λ _. None) (opening c) empty s defined (opening_others c sound) (opening_keeps_none c (λ _. None) sound)
 
 -- one holder for each lock, whole pages of 2 MB by their sizes, and what was tested
 pub run_keeps_all_locks : (c : Scenario) (s : List ℕ) → IsSound c → IsDefined c s → KeepsLocks (state_after c s)

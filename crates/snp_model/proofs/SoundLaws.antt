@@ -29,7 +29,7 @@ use Rattle.snp_model.specs.Lines.{◌>>=◌, ◌>>◌, cut_at, decimal, digit_va
 use Rattle.snp_model.specs.declared.reading.Quantity.{Quantity}
 use Rattle.snp_model.specs.declared.reading.Quantity.TheVariants as quantities
 use Rattle.snp_model.specs.Reading.{Made, nothing, reading, closed, Fault, refused, is_passed_over, turns_spell, order_of, by_rule, within, fit, fit_line, fit_words, add_regions, add_guest, add_page, add_word, add_actor, add_line, add_item_of, add_item, add_order, add_words, turns_count, Makes, Valid}
-use Rattle.snp_model.specs.ScenarioLines.{frames_of, regions_row, turn_from, turn_parts, turn_of, turns_after, is_order_row, order_row, version_of, version_row, first_scenario, has_five_levels, tables_at, has_no, before_pages, before_words, before_actors, before_orders, idle, opening, opened_of, next_number, page_unit, guest_row, page_row, word_row, cpu_row, tables_row, host_row, with_line, has_asid, is_opened, is_declared, apart, overlap, collide, key_byte, key_of, validity}
+use Rattle.snp_model.specs.ScenarioLines.{frames_of, regions_row, turn_from, turn_parts, turn_of, turns_after, is_order_row, order_row, version_of, version_row, first_scenario, has_five_levels, tables_at, has_no, before_pages, before_words, before_actors, before_orders, idle, opening, opened_of, next_number, page_unit, guest_row, page_row, word_row, cpu_row, tables_row, role_word, role_row, with_line, has_asid, is_opened, is_declared, apart, overlap, collide, key_byte, key_of, validity}
 use Rattle.snp_model.specs.Limits.{most}
 use Rattle.snp_model.specs.Metadata.{AreBytes}
 use Rattle.snp_model.specs.Bounds.{IsPaging, IsCpu, IsRole, IsItemOf, IsLineOf}
@@ -129,10 +129,6 @@ pub record GuestFacts (c : Scenario) (guest : GuestSpec) : Type 0 where
   pub is : IsGuest guest
   pub differs : AllByRecursion (λ (other : GuestSpec). AsidsDiffer other guest) c.guests
 
-opening_ok : (w : List ℕ) (opened : Bool) → opening w ≡ Ok opened → opened ≡ true
-unfolding opening
-opening_ok w opened h = sym (guard_ok (bytes_eq w (codes "opened")) true opened _ h).1
-
 -- the bytes of a key
 digit_small : (w : List ℕ) (k : ℕ) → list_all is_hex_digit w ≡ true → digit_value (get_or w k 0) < 16
 digit_small [] k hex = omega arith
@@ -162,18 +158,18 @@ key_ok w bytes h =
     subst AreBytes one.1 (mapped_bytes (key_byte w) (range_with_len 0 32) (λ k. key_byte_small w k hex))
 
 guest_chain : (c : Scenario) (next : Result ℕ Reason) (opened : Result Bool Reason) (first : Result (Unit {0}) Reason) (asid : Result ℕ Reason) (second : Result (Unit {0}) Reason) (iv : Result ℕ Reason) (third : Result (Unit {0}) Reason) (key : Result (List ℕ) Reason) (guest : GuestSpec)
-    → ((b : Bool) → opened ≡ Ok b → b ≡ true) → ((n : ℕ) → asid ≡ Ok n → (1 ≤ n) × (n ≤ 1023)) → ((n : ℕ) → iv ≡ Ok n → n < 2 ^ 64) → ((bytes : List ℕ) → key ≡ Ok bytes → AreBytes bytes)
+    → ((n : ℕ) → asid ≡ Ok n → (1 ≤ n) × (n ≤ 1023)) → ((n : ℕ) → iv ≡ Ok n → n < 2 ^ 64) → ((bytes : List ℕ) → key ≡ Ok bytes → AreBytes bytes)
     → (next >> (opened >>= (λ (b : Bool). first >> (asid >>= (λ (n : ℕ). second >> (iv >>= (λ (i : ℕ). third >> (key >>= (λ (k : List ℕ). require (not (list_any (has_asid n) c.guests)) Repeat >> Ok (let g : GuestSpec = record { opened = b; asid = n; iv = i; key = k } in g)))))))))) ≡ Ok guest
     → GuestFacts c guest
-guest_chain c (Err e) opened first asid second iv third key guest opens bounds counter bytes h = absurd (cc)
-guest_chain c (Ok n) (Err e) first asid second iv third key guest opens bounds counter bytes h = absurd (cc)
-guest_chain c (Ok n) (Ok b) (Err e) asid second iv third key guest opens bounds counter bytes h = absurd (cc)
-guest_chain c (Ok n) (Ok b) (Ok u) (Err e) second iv third key guest opens bounds counter bytes h = absurd (cc)
-guest_chain c (Ok n) (Ok b) (Ok u) (Ok a) (Err e) iv third key guest opens bounds counter bytes h = absurd (cc)
-guest_chain c (Ok n) (Ok b) (Ok u) (Ok a) (Ok v) (Err e) third key guest opens bounds counter bytes h = absurd (cc)
-guest_chain c (Ok n) (Ok b) (Ok u) (Ok a) (Ok v) (Ok i) (Err e) key guest opens bounds counter bytes h = absurd (cc)
-guest_chain c (Ok n) (Ok b) (Ok u) (Ok a) (Ok v) (Ok i) (Ok w) (Err e) guest opens bounds counter bytes h = absurd (cc)
-guest_chain c (Ok n) (Ok b) (Ok u) (Ok a) (Ok v) (Ok i) (Ok w) (Ok k) guest opens bounds counter bytes h =
+guest_chain c (Err e) opened first asid second iv third key guest bounds counter bytes h = absurd (cc)
+guest_chain c (Ok n) (Err e) first asid second iv third key guest bounds counter bytes h = absurd (cc)
+guest_chain c (Ok n) (Ok b) (Err e) asid second iv third key guest bounds counter bytes h = absurd (cc)
+guest_chain c (Ok n) (Ok b) (Ok u) (Err e) second iv third key guest bounds counter bytes h = absurd (cc)
+guest_chain c (Ok n) (Ok b) (Ok u) (Ok a) (Err e) iv third key guest bounds counter bytes h = absurd (cc)
+guest_chain c (Ok n) (Ok b) (Ok u) (Ok a) (Ok v) (Err e) third key guest bounds counter bytes h = absurd (cc)
+guest_chain c (Ok n) (Ok b) (Ok u) (Ok a) (Ok v) (Ok i) (Err e) key guest bounds counter bytes h = absurd (cc)
+guest_chain c (Ok n) (Ok b) (Ok u) (Ok a) (Ok v) (Ok i) (Ok w) (Err e) guest bounds counter bytes h = absurd (cc)
+guest_chain c (Ok n) (Ok b) (Ok u) (Ok a) (Ok v) (Ok i) (Ok w) (Ok k) guest bounds counter bytes h =
     let made : GuestSpec = record { opened = b; asid = a; iv = i; key = k } in
     let final : Result GuestSpec Reason = Ok made in
     let step = then_ok (require (not (list_any (has_asid a) c.guests)) Repeat) final guest h in
@@ -181,7 +177,7 @@ guest_chain c (Ok n) (Ok b) (Ok u) (Ok a) (Ok v) (Ok i) (Ok w) (Ok k) guest open
     let none : list_any (has_asid a) c.guests ≡ false = let e = require_ok (not (list_any (has_asid a) c.guests)) Repeat step.0 step.1 in grind (arith, nat_tests, e) in
     let bound = bounds a refl in
     subst (GuestFacts c) same (record {
-      is = record { opened = opens b refl; asid_some = omega (arith, bound.0); asid_below = omega (arith, bound.1); iv = counter i refl; key = bytes k refl };
+      is = record { asid_some = omega (arith, bound.0); asid_below = omega (arith, bound.1); iv = counter i refl; key = bytes k refl };
       differs = none_any (has_asid a) (λ (other : GuestSpec). AsidsDiffer other made) c.guests (λ other fails same_asid. absurd (grind (arith, nat_tests, fails, same_asid))) none;
     })
 
@@ -189,9 +185,9 @@ guest_row_ok : (c : Scenario) (ws : List (List ℕ)) (guest : GuestSpec) → gue
 unfolding guest_row
 guest_row_ok c ws guest h =
     guest_chain c (next_number (length c.guests) (word ws 1)) (opening (word ws 2)) (fixed (word ws 3) (codes "asid")) (ranged 1 1023 (word ws 4)) (fixed (word ws 5) (codes "iv")) (number (word ws 6)) (fixed (word ws 7) (codes "key")) (key_of (word ws 8)) guest
-    (λ b is. opening_ok (word ws 2) b is) (λ n is. ranged_ok 1 1023 (word ws 4) n is) (λ n is. number_ok (word ws 6) n is) (λ bytes is. key_ok (word ws 8) bytes is) h
+    (λ n is. ranged_ok 1 1023 (word ws 4) n is) (λ n is. number_ok (word ws 6) n is) (λ bytes is. key_ok (word ws 8) bytes is) h
 
--- the guests that stand are opened, so an opened one is declared
+-- an opened guest is declared
 opened_declared : (guests : List GuestSpec) (guest : ℕ) → is_opened guests guest ≡ true → (0 < guest) × (guest ≤ length guests)
 unfolding is_opened
 opened_declared guests guest h =
@@ -378,14 +374,20 @@ tables_row_ok c ws made h =
     tables_chain c (next_number (length c.actors) (word ws 1)) (fixed (word ws 2) (codes "cpu")) (number (word ws 3)) (fixed (word ws 4) (codes "vmpl")) (below 4 (word ws 5)) (fixed (word ws 6) (codes "npt")) (below (frames_of c) (word ws 7)) (has_five_levels c.version (word ws 8)) (below (2 ^ 36) (word ws 9)) made
     (below_ok _ _) (below_ok _ _) (below_ok _ _) h
 
-host_chain : (c : Scenario) (next : Result ℕ Reason) (first : Result (Unit {0}) Reason) (made : Role) → (next >> (first >> Ok Host)) ≡ Ok made → IsRole (frames_of c) (length c.guests) made
-host_chain c (Err e) first made h = absurd (cc)
-host_chain c (Ok n) (Err e) made h = absurd (cc)
-host_chain c (Ok n) (Ok u) made h = let same : Host ≡ made = cc in subst (IsRole (frames_of c) (length c.guests)) same tt
+role_word_ok : (frames guests : ℕ) (w : List ℕ) (made : Role) → role_word w ≡ Ok made → IsRole frames guests made
+unfolding role_word
+role_word_ok frames guests w made h =
+    let host : Result Role Reason = Ok Host in
+    let firmware : Result Role Reason = Ok Firmware in
+    select (bytes_eq w (codes "host")) host (cond (bytes_eq w (codes "fw")) firmware (Err Form)) made (IsRole frames guests made)
+    (λ _ said. let same : Host ≡ made = cc in subst (IsRole frames guests) same tt)
+    (λ _ other. let one = guard_ok (bytes_eq w (codes "fw")) Firmware made Form other in subst (IsRole frames guests) one.1 tt) h
 
-host_row_ok : (c : Scenario) (ws : List (List ℕ)) (made : Role) → host_row c ws ≡ Ok made → IsRole (frames_of c) (length c.guests) made
-unfolding host_row
-host_row_ok c ws made h = host_chain c (next_number (length c.actors) (word ws 1)) (fixed (word ws 2) (codes "host")) made h
+role_row_ok : (c : Scenario) (ws : List (List ℕ)) (made : Role) → role_row c ws ≡ Ok made → IsRole (frames_of c) (length c.guests) made
+unfolding role_row
+role_row_ok c ws made h =
+    let role = then_ok (next_number (length c.actors) (word ws 1)) (role_word (word ws 2)) made h in
+    role_word_ok (frames_of c) (length c.guests) (word ws 2) made role.2
 
 -- schedules
 turn_from_ok : (actor count : ℕ) (turn : Turn) → turn_from actor count ≡ Ok turn → IsTurn turn
@@ -669,7 +671,7 @@ line_keeps c ws next draft h =
     let item = add_item c ws in
     let final : Result Made Fault = cond (is_row ws (codes "end") 1 && not (c.regions == 0)) (Ok (closed c)) item in
     let order = cond (is_order_row ws && not (c.regions == 0)) (add_order c ws) final in
-    let host = cond (is_row ws (codes "actor") 3 && before_orders c) (add_actor c (host_row c ws)) order in
+    let host = cond (is_row ws (codes "actor") 3 && before_orders c) (add_actor c (role_row c ws)) order in
     let tables = cond (is_row ws (codes "actor") 10 && before_orders c) (add_actor c (tables_row c ws)) host in
     let cpu = cond (is_row ws (codes "actor") 9 && before_orders c) (add_actor c (cpu_row c ws)) tables in
     let words = cond (is_row ws (codes "word") 4 && before_actors c) (add_word c ws) cpu in
@@ -687,8 +689,8 @@ line_keeps c ws next draft h =
     (λ fits made. actors_keep c (cpu_row c ws) next draft (cpu_row_ok c ws) made)
     (λ no_cpus h5. select (is_row ws (codes "actor") 10 && before_orders c) (add_actor c (tables_row c ws)) host next (IsMade next)
     (λ fits made. actors_keep c (tables_row c ws) next draft (tables_row_ok c ws) made)
-    (λ no_tables h9. select (is_row ws (codes "actor") 3 && before_orders c) (add_actor c (host_row c ws)) order next (IsMade next)
-    (λ fits made. actors_keep c (host_row c ws) next draft (host_row_ok c ws) made)
+    (λ no_tables h9. select (is_row ws (codes "actor") 3 && before_orders c) (add_actor c (role_row c ws)) order next (IsMade next)
+    (λ fits made. actors_keep c (role_row c ws) next draft (role_row_ok c ws) made)
     (λ no_hosts h6. select (is_order_row ws && not (c.regions == 0)) (add_order c ws) final next (IsMade next)
     (λ fits made. orders_keep c ws next draft made)
     (λ no_orders h7. select (is_row ws (codes "end") 1 && not (c.regions == 0)) (Ok (closed c)) item next (IsMade next)

@@ -27,14 +27,15 @@ mutable_at pages size frame f none inside =
     subst (λ (k : ℕ). (pages k).facts.immutable ≡ false) (range_frame size frame f inside)
     (no_frame (λ place. (pages (frame + place)).facts.immutable) 0 (frames_in size) none (f - frame) (range_place size frame f inside))
 
--- a page that only becomes immutable is assigned, and of the size that is asked for
+-- a page that only becomes immutable is assigned, and has the ASID and the size that are asked for
 record IsAsAsked (update : Update) (first : RmpEntry) : Type 0 where
   assigned : first.assigned ≡ true
+  asid_is : first.asid ≡ update.asid
   size_is : same_size first.size update.size ≡ true
 
 as_asked : (update : Update) (first : RmpEntry) → makes_immutable update first ≡ true → IsAsAsked update first
 unfolding makes_immutable
-as_asked update first makes = record { assigned = grind (arith, nat_tests); size_is = grind (arith, nat_tests) }
+as_asked update first makes = record { assigned = grind (arith, nat_tests); asid_is = grind (arith, nat_tests); size_is = grind (arith, nat_tests) }
 
 same_large : (size : PageSize) → same_size size Large ≡ true → size ≡ Large
 same_large Small same = absurd (true≢false (sym same))
@@ -54,6 +55,14 @@ assigned_at pages Large frame f whole aligned inside assigned same =
     let page = whole.together frame f (same_large (pages frame).facts.size same) (range_region frame f (aligned refl) inside) in
     ap (λ (facts : RmpEntry). facts.assigned) page.alike ∙ assigned
 
+-- and each has the ASID of the first
+owner_at : (pages : Pages) (size : PageSize) (frame f : ℕ) → AreLargeWhole pages → (size ≡ Large → frame % 512 ≡ 0) → covers f (range_lock size frame) ≡ true
+    → same_size (pages frame).facts.size size ≡ true → (pages f).facts.asid ≡ (pages frame).facts.asid
+owner_at pages Small frame f whole aligned inside same = ap (λ (k : ℕ). (pages k).facts.asid) (small_range_covered frame f inside)
+owner_at pages Large frame f whole aligned inside same =
+    let page = whole.together frame f (same_large (pages frame).facts.size same) (range_region frame f (aligned refl) inside) in
+    ap (λ (facts : RmpEntry). facts.asid) page.alike
+
 -- so of the whole range
 pub are_updatable : (frames : ℕ) (contents : Contents) (update : Update) (lock : PageLock) → IsUpdateLock frames contents update lock → AreLargeWhole contents.pages → AreUpdatable update lock contents.pages
 are_updatable frames contents update lock tested whole =
@@ -66,6 +75,9 @@ are_updatable frames contents update lock tested whole =
       assigned = λ makes.
           let asked = as_asked update first makes in
           assigned_at pages update.size update.frame f whole (bad_aligned frames update passes.fine) inside asked.assigned asked.size_is;
+      owner = λ makes.
+          let asked = as_asked update first makes in
+          owner_at pages update.size update.frame f whole (bad_aligned frames update passes.fine) inside asked.size_is ∙ asked.asid_is;
     })
 
 -- the guest page number of a range of 2 MB is aligned: where nothing is assigned it is 0

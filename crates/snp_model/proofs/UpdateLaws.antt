@@ -1,6 +1,6 @@
 -- RMPUPDATE and PSMASH leave each page of a guest with its one holder, or with none: where no frame of what they change is immutable.
 use Rattle.std.proofs.Common.{◌≡◌, ◌≢◌, ℕ, ◌-◌, Bool, true, false, not, cond, eqb, List, length, refl, sym, ◌∙◌, subst}
-use Rattle.std.proofs.lemmas.Bool.{cond_both, true≢false}
+use Rattle.std.proofs.lemmas.Bool.{cond_both, eqb-true, true≢false}
 use Rattle.snp_model.specs.declared.entry.Kind.{Kind}
 use Rattle.snp_model.specs.declared.entry.Kind.TheVariants as kinds
 use Rattle.snp_model.specs.declared.entry.RmpEntry.{RmpEntry}
@@ -68,10 +68,11 @@ pub over_frames : (P : Page → Page → Type 0) (base count : ℕ) (change : �
     → (f : ℕ) → P (over base count change pages f) (pages f)
 over_frames P base count change pages beside inside f = cond_both (in_range base count f) _ _ (λ (page : Page). P page (pages f)) (inside f) (λ outside. beside f)
 
--- what the lock of an RMPUPDATE has tested of a frame of its range, at its commit: it isn't immutable, and where the page only becomes immutable it is assigned
+-- what the lock of an RMPUPDATE has tested of a frame of its range, at its commit: it isn't immutable, and where the page only becomes immutable it is assigned, with the ASID that is asked for
 pub record IsUpdatable (update : Update) (first facts : RmpEntry) : Type 0 where
   pub mutable : facts.immutable ≡ false
   pub assigned : makes_immutable update first ≡ true → facts.assigned ≡ true
+  pub owner : makes_immutable update first ≡ true → facts.asid ≡ update.asid
 
 plain_kind : (facts : RmpEntry) → KindFits facts → facts.immutable ≡ false → facts.kind ≡ kinds.Metadata → ⊥
 plain_kind facts fits mutable is = true≢false (sym (fits.immutable (λ (e : facts.kind ≡ kinds.Plain). metadata_not_plain facts.kind is e)) ∙ mutable)
@@ -109,7 +110,7 @@ unfolding free_entry
 free_updated asid update facts words new_words whole = record {
   held = λ gpn h. absurd (true≢false (sym h.assigned));
   metadata = not_plain;
-  fits = record { assigned = λ ne. absurd (ne refl); immutable = λ ne. absurd (ne refl) };
+  fits = record { assigned = λ ne. absurd (ne refl); immutable = λ ne. absurd (ne refl); no_guest = λ ne. absurd (ne refl) };
   whole = whole;
 }
 
@@ -119,22 +120,40 @@ assigned_fits update place =
     elim update.immutable as (λ (b : Bool). cond b (immutable_kind update.asid kinds.Plain) kinds.Plain ≢ kinds.Plain → b ≡ true)
     [ true ↦ λ ne. refl | false ↦ λ ne. absurd (ne refl) ]
 
+-- a page that becomes immutable is used by the firmware where it is no guest's
+used_by_none : (asid : ℕ) (kind : Kind) → kind ≡ kinds.Plain → immutable_kind asid kind ≢ kinds.Plain → asid ≡ 0
+used_by_none asid kind plain =
+    cond_both (eqb asid 0) kinds.Firmware kind (λ (k : Kind). k ≢ kinds.Plain → asid ≡ 0) (λ none _. eqb-true asid 0 none) (λ _ used_by. absurd (used_by plain))
+
+assigned_no_guest : (update : Update) (place : ℕ) → (assigned_facts update place).kind ≢ kinds.Plain → (assigned_facts update place).asid ≡ 0
+unfolding assigned_facts
+assigned_no_guest update place =
+    cond_both update.immutable (immutable_kind update.asid kinds.Plain) kinds.Plain (λ (k : Kind). k ≢ kinds.Plain → update.asid ≡ 0)
+    (λ _. used_by_none update.asid kinds.Plain refl) (λ _ used_by. absurd (used_by refl))
+
 assigned_updated : (asid : ℕ) (update : Update) (place : ℕ) (facts : RmpEntry) (words new_words : List ℕ) → (length words ≡ 512 → length new_words ≡ 512)
     → IsUpdated asid update facts (assigned_facts update place) words new_words
 unfolding assigned_facts
 assigned_updated asid update place facts words new_words whole = record {
   held = λ gpn h. absurd (true≢false (sym h.validated));
   metadata = assigned_kind update place;
-  fits = record { assigned = λ _. refl; immutable = assigned_fits update place };
+  fits = record { assigned = λ _. refl; immutable = assigned_fits update place; no_guest = assigned_no_guest update place };
   whole = whole;
 }
 
-frozen_updated : (asid : ℕ) (update : Update) (facts : RmpEntry) (words : List ℕ) → KindFits facts → facts.immutable ≡ false → facts.assigned ≡ true
+-- a frame that isn't immutable is of kind Plain
+mutable_plain : (facts : RmpEntry) (kind : Kind) → facts.kind ≡ kind → KindFits facts → facts.immutable ≡ false → kind ≡ kinds.Plain
+mutable_plain facts kinds.Plain is fits mutable = refl
+mutable_plain facts kinds.Firmware is fits mutable = absurd (true≢false (sym (fits.immutable (λ plain. absurd cc)) ∙ mutable))
+mutable_plain facts kinds.Context is fits mutable = absurd (true≢false (sym (fits.immutable (λ plain. absurd cc)) ∙ mutable))
+mutable_plain facts kinds.Metadata is fits mutable = absurd (true≢false (sym (fits.immutable (λ plain. absurd cc)) ∙ mutable))
+
+frozen_updated : (asid : ℕ) (update : Update) (facts : RmpEntry) (words : List ℕ) → KindFits facts → facts.immutable ≡ false → facts.assigned ≡ true → facts.asid ≡ update.asid
     → IsUpdated asid update facts (record facts { immutable = true; kind = immutable_kind update.asid facts.kind }) words words
-frozen_updated asid update facts words fits mutable assigned = record {
+frozen_updated asid update facts words fits mutable assigned owner = record {
   held = λ gpn h. (record { assigned = h.assigned; validated = h.validated; asid_is = h.asid_is; gpn_is = h.gpn_is }, refl);
   metadata = no_metadata_kind update.asid facts.kind (plain_kind facts fits mutable);
-  fits = record { assigned = λ _. assigned; immutable = λ _. refl };
+  fits = record { assigned = λ _. assigned; immutable = λ _. refl; no_guest = λ used_by. owner ∙ used_by_none update.asid facts.kind (mutable_plain facts facts.kind refl fits mutable) used_by };
   whole = λ whole. whole;
 }
 
@@ -142,15 +161,15 @@ is_updated : (asid : ℕ) (update : Update) (first : RmpEntry) (place : ℕ) (pa
     → IsUpdated asid update page.facts (updated_facts update first place page.facts) page.words (updated_words update first page.facts page.words)
 unfolding updated_facts updated_words
 is_updated asid update first place page fits may =
-    elim (makes_immutable update first) as (λ (b : Bool). (b ≡ true → page.facts.assigned ≡ true) →
+    elim (makes_immutable update first) as (λ (b : Bool). (b ≡ true → page.facts.assigned ≡ true) → (b ≡ true → page.facts.asid ≡ update.asid) →
     IsUpdated asid update page.facts (cond b (record page.facts { immutable = true; kind = immutable_kind update.asid page.facts.kind }) (cond (not update.assigned) free_entry (assigned_facts update place)))
     page.words (cond b page.words (cond page.facts.assigned zero_words page.words))) [
-      | true ↦ λ assigned. frozen_updated asid update page.facts page.words fits may.mutable (assigned refl)
-      | false ↦ λ assigned. cond_both (not update.assigned) _ _ (λ (facts : RmpEntry). IsUpdated asid update page.facts facts page.words (cond page.facts.assigned zero_words page.words))
+      | true ↦ λ assigned owner. frozen_updated asid update page.facts page.words fits may.mutable (assigned refl) (owner refl)
+      | false ↦ λ assigned owner. cond_both (not update.assigned) _ _ (λ (facts : RmpEntry). IsUpdated asid update page.facts facts page.words (cond page.facts.assigned zero_words page.words))
           (λ _. free_updated asid update page.facts page.words _ (words_whole page.facts.assigned page.words))
           (λ _. assigned_updated asid update place page.facts page.words _ (words_whole page.facts.assigned page.words))
     ]
-    may.assigned
+    may.assigned may.owner
 
 -- what the lock of an RMPUPDATE has tested of its range, as it holds at the commit
 abbrev pub AreUpdatable : Update → PageLock → Pages → Type 0
@@ -180,4 +199,4 @@ smash_fine guest asid archive memory old lock before =
     (over_frames (Lessens asid) lock.base lock.count change pages (λ f. lessens_itself asid (pages f))
     (λ f inside. record { held = λ gpn h. (record { assigned = h.assigned; validated = h.validated; asid_is = h.asid_is; gpn_is = h.gpn_is }, refl); metadata = λ is. (is, refl) }))
     (over_frames (λ (new page : Page). length new.words ≡ 512) lock.base lock.count change pages before.whole (λ f inside. before.whole f))
-    (over_frames (λ (new page : Page). KindFits new.facts) lock.base lock.count change pages before.fits (λ f inside. record { assigned = (before.fits f).assigned; immutable = (before.fits f).immutable }))
+    (over_frames (λ (new page : Page). KindFits new.facts) lock.base lock.count change pages before.fits (λ f inside. record { assigned = (before.fits f).assigned; immutable = (before.fits f).immutable; no_guest = (before.fits f).no_guest }))

@@ -1,5 +1,5 @@
 -- Each event keeps the one holder of each page, and finds in the guest's memory what it needs.
-use Rattle.std.proofs.Common.{◌≡◌, ◌≢◌, ℕ, ◌<◌, Bool, true, false, not, ◌&&◌, ◌||◌, eqb, slice_index, List, [], ◌∷◌, length, Option, Some, None, refl, sym, ◌∙◌, subst, arith}
+use Rattle.std.proofs.Common.{◌≡◌, ◌≢◌, ℕ, ◌<◌, ◌≤◌, Bool, true, false, not, ◌&&◌, ◌||◌, eqb, slice_index, List, [], ◌∷◌, length, Option, Some, None, refl, sym, ◌∙◌, subst, arith}
 use Rattle.std.proofs.lemmas.Bool.{cond_both, eqb-true, eqb-false, true≢false}
 use Rattle.std.proofs.lemmas.Bool.Decides.{nat_tests}
 use Rattle.snp_model.specs.declared.access.Place.{Place}
@@ -55,12 +55,17 @@ pub record Owns (guest asid : ℕ) (guests : List GuestSpec) (owner : ℕ) : Typ
   pub own : owner ≡ guest → asid_of guests owner ≡ asid
   pub other : owner ≢ guest → asid_of guests owner ≢ asid
 
+-- so of each declared guest, and the guest's ASID isn't 0, which is nobody's
+pub record OwnsAmong (guest asid : ℕ) (guests : List GuestSpec) : Type 0 where
+  pub some : asid ≢ 0
+  pub each : (owner : ℕ) → 0 < owner → owner ≤ length guests → Owns guest asid guests owner
+
 abbrev pub RoleOwns : ℕ → ℕ → List GuestSpec → Role → Type 0
 RoleOwns guest asid guests (Cpu owner vmpl npt paging) = Owns guest asid guests owner
 RoleOwns guest asid guests Host = Unit {0}
-RoleOwns guest asid guests Firmware = Unit {0}
+RoleOwns guest asid guests Firmware = OwnsAmong guest asid guests
 
--- an item of which this is proved: no scenario has a guest processor's instruction of the RMP or a command of the firmware yet
+-- an item of which this is proved here, for any guest: of a guest processor's instructions of the RMP, and of the firmware's commands, it is proved where the guest's memory lacks what they make held
 abbrev pub IsProved : Role → Item → Type 0
 IsProved (Cpu owner vmpl npt paging) (items.Pvalidate address size validate) = ⊥
 IsProved (Cpu owner vmpl npt paging) (items.Rmpadjust address size target mask vmsa) = ⊥
@@ -96,7 +101,7 @@ untouched_for guest left Host deed item outcome e = refl
 untouched_for guest left Firmware deed item outcome e = e.firmware guest left
 
 -- an event that changes nothing
-nothing_fine : (guest asid : ℕ) (archive : Archive) (memory : Memory) (old : Contents) → Before guest asid archive memory old → Fine guest asid archive memory old old Untouched
+pub nothing_fine : (guest asid : ℕ) (archive : Archive) (memory : Memory) (old : Contents) → Before guest asid archive memory old → Fine guest asid archive memory old old Untouched
 unfolding used
 nothing_fine guest asid archive memory old before = record { legal = tt; core = before.core; whole = before.whole; fits = before.fits }
 

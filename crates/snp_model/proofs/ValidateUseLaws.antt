@@ -122,6 +122,7 @@ validated_fits validate own lock pages fits f =
     record {
       assigned = λ used_by. keeps.assigned ∙ (fits f).assigned (λ plain. used_by (keeps.kind ∙ plain));
       immutable = λ used_by. keeps.immutable ∙ (fits f).immutable (λ plain. used_by (keeps.kind ∙ plain));
+      no_guest = λ used_by. keeps.asid ∙ (fits f).no_guest (λ plain. used_by (keeps.kind ∙ plain));
     }
 
 -- a page whose frames and guest page numbers go together: the frame of a page number, and the page number of a frame
@@ -317,7 +318,7 @@ adjusted_lessens asid vmpl target mask vmsa page = record {
 
 adjusted_fits : (vmpl target mask : ℕ) (vmsa : Bool) (page : Page) → KindFits page.facts → KindFits (adjusted_page vmpl target mask vmsa page).facts
 unfolding adjusted_facts
-adjusted_fits vmpl target mask vmsa page fits = record { assigned = fits.assigned; immutable = fits.immutable }
+adjusted_fits vmpl target mask vmsa page fits = record { assigned = fits.assigned; immutable = fits.immutable; no_guest = fits.no_guest }
 
 adjust_commit : (guest asid : ℕ) (archive : Archive) (memory : Memory) (old : Contents) (vmpl target mask : ℕ) (vmsa : Bool) (lock : PageLock) → Before guest asid archive memory old
     → Fine guest asid archive memory old (record old { pages = pages_adjusted vmpl target mask vmsa lock old.pages }) Untouched

@@ -1,5 +1,8 @@
 -- The bounds on the numbers of roles, of items and of the ends of walks. They are this project's own.
-use Rattle.std.specs.Prelude.{◌≡◌, ℕ, ◌*◌, ◌%◌, ◌^◌, ◌<◌, ◌≤◌}
+use Rattle.std.specs.Prelude.{◌≡◌, ℕ, ◌*◌, ◌%◌, ◌^◌, ◌<◌, ◌≤◌, List, length}
+use Rattle.std.specs.List.{AllByRecursion}
+use Rattle.snp_model.specs.declared.command.Command.{Command}
+use Rattle.snp_model.specs.declared.command.Command.TheVariants as commands
 use Rattle.snp_model.specs.declared.item.Item.{Item}
 use Rattle.snp_model.specs.declared.item.Item.TheVariants as items
 use Rattle.snp_model.specs.declared.item.Line.{Line}
@@ -29,11 +32,11 @@ pub record IsCpu (frames guests guest vmpl npt : ℕ) (paging : Paging) : Type 0
   pub npt_below : npt < frames
   pub root_below : IsPaging paging
 
--- a role; no scenario has a firmware actor yet
+-- a role
 abbrev pub IsRole : ℕ → ℕ → Role → Type 0
 IsRole frames guests (Cpu guest vmpl npt paging) = IsCpu frames guests guest vmpl npt paging
 IsRole frames guests Host = Unit {0}
-IsRole frames guests Firmware = ⊥
+IsRole frames guests Firmware = Unit {0}
 
 -- a skip passes over 1 to 8,192 items
 abbrev pub IsSkip : ℕ → Type 0
@@ -63,6 +66,32 @@ IsHostItem frames (items.Psmash frame) = Unit {0}
 IsHostItem frames (items.Firmware command) = ⊥
 IsHostItem frames (items.Skip count test) = IsSkip count
 
+-- the guest of a command: one that may or may not be declared
+abbrev pub IsGuestNumber : ℕ → Type 0
+IsGuestNumber guest = (0 < guest) × (guest ≤ 8)
+
+-- the permissions of VMPL1 to VMPL3 that a page is launched with
+pub record IsLaunchedWith (perms : List ℕ) : Type 0 where
+  pub three : length perms ≡ 3
+  pub below : AllByRecursion (λ p. p < 16) perms
+
+-- a command of the firmware, whose frames are any numbers; no scenario has the six yet that seal and open pages
+abbrev pub IsFirmwareCommand : Command → Type 0
+IsFirmwareCommand (commands.GctxCreate guest frame) = IsGuestNumber guest
+IsFirmwareCommand (commands.Activate guest asid) = IsGuestNumber guest × (asid < 1024)
+IsFirmwareCommand (commands.LaunchStart guest) = IsGuestNumber guest
+IsFirmwareCommand (commands.LaunchUpdate guest frame page_type imi perms) = IsGuestNumber guest × (page_type < 256) × IsLaunchedWith perms
+IsFirmwareCommand (commands.LaunchFinish guest) = IsGuestNumber guest
+IsFirmwareCommand (commands.MdInit frame) = Unit {0}
+IsFirmwareCommand (commands.PageMove guest source target) = IsGuestNumber guest
+IsFirmwareCommand (commands.SwapOut guest source target metadata entry) = ⊥
+IsFirmwareCommand (commands.SwapIn guest source target metadata entry) = ⊥
+IsFirmwareCommand (commands.Reclaim frame) = Unit {0}
+IsFirmwareCommand (commands.MdOut guest source target metadata entry) = ⊥
+IsFirmwareCommand (commands.MdIn guest source target metadata entry) = ⊥
+IsFirmwareCommand (commands.MdRootOut guest source target) = ⊥
+IsFirmwareCommand (commands.MdRootIn guest source target) = ⊥
+
 -- an item of a firmware actor
 abbrev pub IsFirmwareItem : Item → Type 0
 IsFirmwareItem (items.Access address op) = ⊥
@@ -70,7 +99,7 @@ IsFirmwareItem (items.Pvalidate address size validate) = ⊥
 IsFirmwareItem (items.Rmpadjust address size target mask vmsa) = ⊥
 IsFirmwareItem (items.Rmpupdate update) = ⊥
 IsFirmwareItem (items.Psmash frame) = ⊥
-IsFirmwareItem (items.Firmware command) = ⊥
+IsFirmwareItem (items.Firmware command) = IsFirmwareCommand command
 IsFirmwareItem (items.Skip count test) = IsSkip count
 
 -- an item that an actor with this role may have

@@ -1,5 +1,7 @@
 -- The lines of items, a row for each form, by the role of their actor. The texts are this project's own.
-use Rattle.std.specs.Prelude.{ℕ, ◌+◌, ◌*◌, ◌^◌, ◌==◌, ◌||◌, if◌then◌else◌, Bool, List, Result, Ok, Err, codes, bytes_eq, length}
+use Rattle.std.specs.Prelude.{ℕ, ◌+◌, ◌*◌, ◌^◌, ◌==◌, ◌||◌, if◌then◌else◌, Bool, List, [], ◌∷◌, Result, Ok, Err, codes, bytes_eq, length}
+use Rattle.snp_model.specs.declared.command.Command.{Command}
+use Rattle.snp_model.specs.declared.command.Command.TheVariants.{GctxCreate, Activate, LaunchStart, LaunchUpdate, LaunchFinish, MdInit, PageMove, Reclaim}
 use Rattle.snp_model.specs.declared.entry.PageSize.{PageSize}
 use Rattle.snp_model.specs.declared.entry.PageSize.TheVariants.{Small, Large}
 use Rattle.snp_model.specs.declared.reading.Reason.{Reason}
@@ -11,6 +13,7 @@ use Rattle.snp_model.specs.declared.item.Op.TheVariants.{Load, Store, Swap, Comp
 use Rattle.snp_model.specs.declared.item.SkipTest.{SkipTest}
 use Rattle.snp_model.specs.declared.item.SkipTest.TheVariants.{Good, Bad, Value}
 use Rattle.snp_model.specs.declared.item.Item.{Item}
+use Rattle.snp_model.specs.declared.item.Item.TheVariants as items
 use Rattle.snp_model.specs.declared.item.Item.TheVariants.{Access, Psmash, Pvalidate, Rmpadjust, Rmpupdate, Skip}
 use Rattle.snp_model.specs.declared.item.Update.{Update}
 use Rattle.snp_model.specs.Lines.{◌>>=◌, ◌>>◌, words_of, word, is_plain, is_row, fixed, number, ranged, below, multiple}
@@ -189,11 +192,93 @@ host_item frames ws =
     else if is_retry_row ws (codes "psmash") 2 then smash_row ws
     else access_item Host frames ws
 
+-- the guest of a command, which may be an undeclared one
+unfoldable pub guest_word : List ℕ → Result ℕ Reason
+guest_word w = ranged 1 8 w
+
+-- `gctx_create G F`
+unfoldable pub create_operands : List (List ℕ) → Result Command Reason
+create_operands ws = do
+  guest ← guest_word (word ws 1)
+  frame ← number (word ws 2)
+  Ok (GctxCreate guest frame)
+
+-- `activate G A`
+unfoldable pub activate_operands : List (List ℕ) → Result Command Reason
+activate_operands ws = do
+  guest ← guest_word (word ws 1)
+  asid ← below 1024 (word ws 2)
+  Ok (Activate guest asid)
+
+-- `launch_start G`
+unfoldable pub start_operands : List (List ℕ) → Result Command Reason
+start_operands ws = do
+  guest ← guest_word (word ws 1)
+  Ok (LaunchStart guest)
+
+-- `launch_update G F T I X Y Z`
+unfoldable pub launch_operands : List (List ℕ) → Result Command Reason
+launch_operands ws = do
+  guest ← guest_word (word ws 1)
+  frame ← number (word ws 2)
+  page_type ← below 256 (word ws 3)
+  imi ← flag_word (word ws 4)
+  first ← below 16 (word ws 5)
+  second ← below 16 (word ws 6)
+  third ← below 16 (word ws 7)
+  Ok (LaunchUpdate guest frame page_type imi (first ∷ second ∷ third ∷ []))
+
+-- `launch_finish G`
+unfoldable pub finish_operands : List (List ℕ) → Result Command Reason
+finish_operands ws = do
+  guest ← guest_word (word ws 1)
+  Ok (LaunchFinish guest)
+
+-- `md_init F`
+unfoldable pub init_operands : List (List ℕ) → Result Command Reason
+init_operands ws = do
+  frame ← number (word ws 1)
+  Ok (MdInit frame)
+
+-- `page_move G SRC DST`
+unfoldable pub move_operands : List (List ℕ) → Result Command Reason
+move_operands ws = do
+  guest ← guest_word (word ws 1)
+  source ← number (word ws 2)
+  target ← number (word ws 3)
+  Ok (PageMove guest source target)
+
+-- `page_reclaim F`
+unfoldable pub reclaim_operands : List (List ℕ) → Result Command Reason
+reclaim_operands ws = do
+  frame ← number (word ws 1)
+  Ok (Reclaim frame)
+
+-- a command with so many words of its own, which `retry N` may end
+unfoldable pub command_row : List (List ℕ) → ℕ → Result Command Reason → Result Line Reason
+command_row ws count operands = do
+  command ← operands
+  retries ← retries_word ws count
+  Ok (record { item = items.Firmware command; retries = retries })
+
+-- the items of a firmware actor
+unfoldable pub firmware_item : List (List ℕ) → Result Line Reason
+firmware_item ws =
+    if is_retry_row ws (codes "gctx_create") 3 then command_row ws 3 (create_operands ws)
+    else if is_retry_row ws (codes "activate") 3 then command_row ws 3 (activate_operands ws)
+    else if is_retry_row ws (codes "launch_start") 2 then command_row ws 2 (start_operands ws)
+    else if is_retry_row ws (codes "launch_update") 8 then command_row ws 8 (launch_operands ws)
+    else if is_retry_row ws (codes "launch_finish") 2 then command_row ws 2 (finish_operands ws)
+    else if is_retry_row ws (codes "md_init") 2 then command_row ws 2 (init_operands ws)
+    else if is_retry_row ws (codes "page_move") 4 then command_row ws 4 (move_operands ws)
+    else if is_retry_row ws (codes "page_reclaim") 2 then command_row ws 2 (reclaim_operands ws)
+    else skip_item ws
+
 -- the words of an item of an actor with this role
 abbrev pub item_words : Role → ℕ → List (List ℕ) → Result Line Reason
 item_words (Cpu guest vmpl npt paging) frames ws = cpu_item (Cpu guest vmpl npt paging) frames ws
 item_words Host frames ws = host_item frames ws
-item_words Firmware frames ws = skip_item ws
+item_words Firmware frames ws = firmware_item ws
 
 -- a line with an item
 unfoldable pub item_line : Role → ℕ → List ℕ → Result Line Reason

@@ -1,6 +1,7 @@
 -- What every run keeps of the locks that its actors have taken: one holder each, whole pages of 2 MB, and what was tested (this project's own).
-use Rattle.std.specs.Prelude.{◌≡◌, ℕ, ◌/◌, true, if◌then◌else◌, List, get_or, Option, Some}
+use Rattle.std.specs.Prelude.{◌≡◌, ℕ, ◌/◌, ◌==◌, Bool, true, if◌then◌else◌, List, get_or, Option, Some, unwrap_or, is_some}
 use Rattle.std.specs.List.{list_any}
+use Rattle.std.specs.Option.{option_map}
 use Rattle.snp_model.specs.declared.entry.PageSize.TheVariants.{Large}
 use Rattle.snp_model.specs.declared.scenario.GuestSpec.{GuestSpec}
 use Rattle.snp_model.specs.Entries.{released}
@@ -42,6 +43,19 @@ pub record OwnsLocks (actor : ℕ) (part : ActorPart) (holder : ℕ → Option �
   pub has : (frame : ℕ) → locks_frame frame part ≡ true → holder frame ≡ Some actor
   pub only : (frame : ℕ) → holder frame ≡ Some actor → locks_frame frame part ≡ true
 
+-- so is the context that it has locked
+pub record OwnsContext (actor : ℕ) (part : ActorPart) (holder : ℕ → Option ℕ) : Type 0 where
+  pub has : (guest : ℕ) → locks_context guest part ≡ true → holder guest ≡ Some actor
+  pub only : (guest : ℕ) → holder guest ≡ Some actor → locks_context guest part ≡ true
+
 -- the holders once an actor has these locks, and no others
 abbrev pub relocked : ℕ → List PageLock → (ℕ → Option ℕ) → ℕ → Option ℕ
 relocked actor locks holder frame = if list_any (covers frame) locks then Some actor else released actor (holder frame)
+
+-- whether the context that is locked, if one is, is that of this guest
+abbrev pub is_locked : ℕ → Option ℕ → Bool
+is_locked guest context_lock = unwrap_or (option_map (λ locked. locked == guest) context_lock) (is_some context_lock)
+
+-- the holders of contexts once an actor has locked this one, if any, and no other
+abbrev pub recontexted : ℕ → Option ℕ → (ℕ → Option ℕ) → ℕ → Option ℕ
+recontexted actor context_lock holder guest = if is_locked guest context_lock then Some actor else released actor (holder guest)

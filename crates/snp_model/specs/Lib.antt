@@ -33,6 +33,7 @@ pub mod Lines
 pub mod Live
 pub mod Locks
 pub mod MadePages
+pub mod MeasureText
 pub mod Measurement
 pub mod Metadata
 pub mod Moves
@@ -59,6 +60,7 @@ pub mod Sealing
 pub mod Shapes
 pub mod Skips
 pub mod Sound
+pub mod Spelling
 pub mod State
 pub mod Step
 pub mod Texts

@@ -13,7 +13,7 @@ use Rattle.snp_model.specs.Attempts.{attempts_of}
 use Rattle.snp_model.specs.Limits.{most}
 use Rattle.snp_model.specs.Lines.{◌>>=◌, parts_at, words_of, word, is_plain, is_row}
 use Rattle.snp_model.specs.ItemLines.{item_words}
-use Rattle.snp_model.specs.ScenarioLines.{frames_of, has_no, before_orders, before_actors, before_words, before_pages, first_scenario, version_row, regions_row, guest_row, page_row, word_row, idle, cpu_row, tables_row, host_row, with_line, is_order_row, order_row}
+use Rattle.snp_model.specs.ScenarioLines.{frames_of, has_no, before_orders, before_actors, before_words, before_pages, first_scenario, version_row, regions_row, guest_row, page_row, word_row, idle, cpu_row, tables_row, role_row, with_line, is_order_row, order_row}
 
 -- the actors that the turns name, each as often as its turn says
 unfoldable pub turns_spell : List Turn → List ℕ
@@ -103,7 +103,7 @@ add_words c ws =
     else if is_row ws (codes "word") 4 && before_actors c then add_word c ws
     else if is_row ws (codes "actor") 9 && before_orders c then add_actor c (cpu_row c ws)
     else if is_row ws (codes "actor") 10 && before_orders c then add_actor c (tables_row c ws)
-    else if is_row ws (codes "actor") 3 && before_orders c then add_actor c (host_row c ws)
+    else if is_row ws (codes "actor") 3 && before_orders c then add_actor c (role_row c ws)
     else if is_order_row ws && not (c.regions == 0) then add_order c ws
     else if is_row ws (codes "end") 1 && not (c.regions == 0) then Ok (closed c)
     else add_item c ws

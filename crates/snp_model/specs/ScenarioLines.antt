@@ -10,7 +10,7 @@ use Rattle.snp_model.specs.declared.scenario.WordSpec.{WordSpec}
 use Rattle.snp_model.specs.declared.scenario.Turn.{Turn}
 use Rattle.snp_model.specs.declared.scenario.Actor.{Actor}
 use Rattle.snp_model.specs.declared.scenario.Role.{Role}
-use Rattle.snp_model.specs.declared.scenario.Role.TheVariants.{Cpu, Host}
+use Rattle.snp_model.specs.declared.scenario.Role.TheVariants.{Cpu, Host, Firmware}
 use Rattle.snp_model.specs.declared.scenario.Paging.{Paging}
 use Rattle.snp_model.specs.declared.scenario.Paging.TheVariants.{Flat, Four, Five}
 use Rattle.snp_model.specs.declared.item.Line.{Line}
@@ -58,9 +58,9 @@ regions_row ws = ranged 1 (2 ^ 64 - 1) (word ws 1)
 unfoldable pub next_number : ℕ → List ℕ → Result ℕ Reason
 next_number count w = ranged (count + 1) (count + 1) w
 
--- whether a guest is there from the opening on
+-- whether a guest is opened, and so runs from the opening on, or `new`, and so absent until it is launched
 unfoldable pub opening : List ℕ → Result Bool Reason
-opening w = if bytes_eq w (codes "opened") then Ok true else Err Form
+opening w = if bytes_eq w (codes "opened") then Ok true else if bytes_eq w (codes "new") then Ok false else Err Form
 
 -- a key is 64 digits: byte k is spelled by the digits 2k and 2k + 1
 abbrev pub key_byte : List ℕ → ℕ → ℕ
@@ -74,7 +74,7 @@ key_of w =
 abbrev pub has_asid : ℕ → GuestSpec → Bool
 has_asid asid guest = guest.asid == asid
 
--- `guest G opened asid A iv N key K`
+-- `guest G opened asid A iv N key K`, `guest G new asid A iv N key K`
 unfoldable pub guest_row : Scenario → List (List ℕ) → Result GuestSpec Reason
 guest_row c ws = do
   next_number (length c.guests) (word ws 1)
@@ -191,12 +191,15 @@ tables_row c ws = do
   require (is_declared c.guests guest) Guest
   Ok (Cpu guest vmpl npt (tables_at five root))
 
--- `actor N host`
-unfoldable pub host_row : Scenario → List (List ℕ) → Result Role Reason
-host_row c ws = do
+-- `host` or `fw`
+unfoldable pub role_word : List ℕ → Result Role Reason
+role_word w = if bytes_eq w (codes "host") then Ok Host else if bytes_eq w (codes "fw") then Ok Firmware else Err Form
+
+-- `actor N host`, `actor N fw`
+unfoldable pub role_row : Scenario → List (List ℕ) → Result Role Reason
+role_row c ws = do
   next_number (length c.actors) (word ws 1)
-  fixed (word ws 2) (codes "host")
-  Ok Host
+  role_word (word ws 2)
 
 -- the actors with one more item for the last of them
 abbrev pub with_line : List Actor → Line → Actor → List Actor

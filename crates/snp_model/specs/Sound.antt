@@ -23,9 +23,8 @@ abbrev pub Pairwise : {X : Type 0} → (X → X → Type 0) → List X → Type 
 Pairwise R [] = Unit {0}
 Pairwise R (x ∷ xs) = AllByRecursion (R x) xs × Pairwise R xs
 
--- a guest runs from the opening on, with an ASID of its own
+-- a guest, which has an ASID of its own
 pub record IsGuest (guest : GuestSpec) : Type 0 where
-  pub opened : guest.opened ≡ true
   pub asid_some : 0 < guest.asid
   pub asid_below : guest.asid < 1024
   pub iv : guest.iv < 2 ^ 64

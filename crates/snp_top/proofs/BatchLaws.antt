@@ -6,7 +6,7 @@ use Rattle.snp_model.specs.declared.reading.Quantity.{Quantity}
 use Rattle.snp_model.specs.declared.reading.Quantity.TheVariants.{Bytes}
 use Rattle.snp_model.specs.declared.reading.Reason.{Reason}
 use Rattle.snp_model.specs.declared.scenario.Scenario.{Scenario}
-use Rattle.snp_model.specs.CommandLine.{are_words}
+use Rattle.snp_model.specs.CommandLine.{is_replay}
 use Rattle.snp_model.specs.Ending.{report_of}
 use Rattle.snp_model.specs.Findings.{says, wrong, too_much}
 use Rattle.snp_model.specs.Premises.{AreLegal}
@@ -45,7 +45,7 @@ reported (Some text) now played Says reads writes =
     let is = reads.1.2 in
     (reads.0, (c, reads.1.1, (is.defined, subst Says (played_report c played is) writes)))
 
-pub explains_report : (outcome : Result (Unit {0}) CommandFault) (words : List (List ℕ)) (before now : Outside) (played : Played) → are_words words ≡ true → ReadsText before.left now.left (SaysOne (λ c. IsPlayed c played))
+pub explains_report : (outcome : Result (Unit {0}) CommandFault) (words : List (List ℕ)) (before now : Outside) (played : Played) → is_replay words ≡ true → ReadsText before.left now.left (SaysOne (λ c. IsPlayed c played))
     → ReportsTo before.written now.written before.write_faults now.write_faults (report_text played.version played.journal.list played.guests.items) outcome → Explains outcome words before now
 explains_report (Ok done) words before now played fits reads reports = (fits, reported before.left now.left played (Adds before.written now.written) reads reports)
 explains_report (Err faults.Write) words before now played fits reads reports = (fits, reports.1, reported before.left now.left played (AddsPrefix before.written now.written) reads reports.0)
@@ -139,14 +139,14 @@ told_words_line {k} {words} {before} {now} told meant = go told.outcome told.sta
     go (Err faults.Words) is explains = explains.1
     go outcome is explains = absurd (omega (arith, meant, is))
 
-pub told_words : {k : ℕ} {words : List (List ℕ)} {before now : Outside} → Told k words before now → (k ≡ 2) ↔ (are_words words ≡ false)
+pub told_words : {k : ℕ} {words : List (List ℕ)} {before now : Outside} → Told k words before now → (k ≡ 2) ↔ (is_replay words ≡ false)
 told_words {k} {words} {before} {now} told = (λ two. refused two told.outcome told.status told.explains, λ none. needed none told.outcome told.status told.explains)
   where
-    refused : k ≡ 2 → (outcome : Result (Unit {0}) CommandFault) → k ≡ exit_status outcome → Explains outcome words before now → are_words words ≡ false
+    refused : k ≡ 2 → (outcome : Result (Unit {0}) CommandFault) → k ≡ exit_status outcome → Explains outcome words before now → is_replay words ≡ false
     refused meant (Err faults.Words) is explains = explains.0
     refused meant outcome is explains = absurd (omega (arith, meant, is))
 
-    needed : are_words words ≡ false → (outcome : Result (Unit {0}) CommandFault) → k ≡ exit_status outcome → Explains outcome words before now → k ≡ 2
+    needed : is_replay words ≡ false → (outcome : Result (Unit {0}) CommandFault) → k ≡ exit_status outcome → Explains outcome words before now → k ≡ 2
     needed none (Err faults.Words) is explains = is
     needed none outcome is explains = absurd (false≢true (sym none ∙ explains.0))
 
@@ -243,7 +243,7 @@ bad_or_run text c d entry actor one other bad defined =
     run_has_none (opening c) (order_of c) entry actor bad.named bad.bad (subst (λ (e : Scenario). IsDefined e (order_of e)) (same_scenario text d c other one) defined)
 
 -- where each of them comes
-pub told_refusal_where : {k : ℕ} {words : List (List ℕ)} {before now : Outside} → Told k words before now → (text : List ℕ) (line : ℕ) (reason : Reason) → are_words words ≡ true → before.left ≡ Some text → Refuses text line reason
+pub told_refusal_where : {k : ℕ} {words : List (List ℕ)} {before now : Outside} → Told k words before now → (text : List ℕ) (line : ℕ) (reason : Reason) → is_replay words ≡ true → before.left ≡ Some text → Refuses text line reason
     → (k ≡ 3) ⊎ ((k ≡ 5) ⊎ (k ≡ 7))
 told_refusal_where {k} {words} {before} {now} told text line reason fits left refuses = go told.outcome told.status told.explains
   where
@@ -257,7 +257,7 @@ told_refusal_where {k} {words} {before} {now} told text line reason fits left re
     go (Err faults.Memory) is explains = inr (inr is)
     go (Err (faults.Schedule turn)) is explains = let said = if_some _ before.left text left explains.1 in absurd (said_or_wrong text said.1.0 line reason said.1.1 refuses)
 
-pub told_limit_where : {k : ℕ} {words : List (List ℕ)} {before now : Outside} → Told k words before now → (text : List ℕ) (quantity : Quantity) (count : ℕ) → are_words words ≡ true → before.left ≡ Some text → Passes text quantity count
+pub told_limit_where : {k : ℕ} {words : List (List ℕ)} {before now : Outside} → Told k words before now → (text : List ℕ) (quantity : Quantity) (count : ℕ) → is_replay words ≡ true → before.left ≡ Some text → Passes text quantity count
     → (k ≡ 4) ⊎ ((k ≡ 5) ⊎ (k ≡ 7))
 told_limit_where {k} {words} {before} {now} told text quantity count fits left passes = go told.outcome told.status told.explains
   where
@@ -271,7 +271,7 @@ told_limit_where {k} {words} {before} {now} told text quantity count fits left p
     go (Err faults.Memory) is explains = inr (inr is)
     go (Err (faults.Schedule turn)) is explains = let said = if_some _ before.left text left explains.1 in absurd (said_or_too_much text said.1.0 quantity count said.1.1 passes)
 
-pub told_bad_turn_where : {k : ℕ} {words : List (List ℕ)} {before now : Outside} → Told k words before now → (text : List ℕ) (c : Scenario) (entry actor : ℕ) → are_words words ≡ true → before.left ≡ Some text
+pub told_bad_turn_where : {k : ℕ} {words : List (List ℕ)} {before now : Outside} → Told k words before now → (text : List ℕ) (c : Scenario) (entry actor : ℕ) → is_replay words ≡ true → before.left ≡ Some text
     → Reads text c → IsFirstBad (opening c) (order_of c) entry actor → (k ≡ 8) ⊎ ((k ≡ 5) ⊎ (k ≡ 7))
 told_bad_turn_where {k} {words} {before} {now} told text c entry actor fits left reads bad = go told.outcome told.status told.explains
   where
@@ -285,7 +285,7 @@ told_bad_turn_where {k} {words} {before} {now} told text c entry actor fits left
     go (Err faults.Memory) is explains = inr (inr is)
     go (Err (faults.Schedule turn)) is explains = inl is
 
-pub told_complete : {k : ℕ} {words : List (List ℕ)} {before now : Outside} → Told k words before now → (text : List ℕ) (c : Scenario) → are_words words ≡ true → before.left ≡ Some text → Reads text c → IsDefined c (order_of c)
+pub told_complete : {k : ℕ} {words : List (List ℕ)} {before now : Outside} → Told k words before now → (text : List ℕ) (c : Scenario) → is_replay words ≡ true → before.left ≡ Some text → Reads text c → IsDefined c (order_of c)
     → (Rose before.read_faults now.read_faults → ⊥) → (Rose before.write_faults now.write_faults → ⊥) → (k ≡ 0) ⊎ (k ≡ 7)
 told_complete {k} {words} {before} {now} told text c fits left reads defined no_read no_write = go told.outcome told.status told.explains
   where

@@ -7,7 +7,7 @@ use Rattle.snp_model.specs.declared.reading.Reason.{Reason}
 use Rattle.snp_model.specs.declared.scenario.Scenario.{Scenario}
 use Rattle.snp_model.specs.Limits.{most}
 use Rattle.snp_model.specs.Outside.{TakesAll}
-use Rattle.snp_model.specs.Reading.{Passes, Refuses}
+use Rattle.snp_model.specs.Reading.{IsTooLong, Passes, Refuses}
 use Rattle.scenario_text.specs.declared.fault.ScenarioFault.{ScenarioFault}
 use Rattle.scenario_text.specs.declared.fault.ScenarioFault.TheVariants as texts
 use Rattle.scenario_text.specs.Answers.{Answers}
@@ -19,19 +19,23 @@ use Rattle.snp_top.specs.Replays.{HasReplayCause, ReadsSome, ReadsText}
 use Rattle.snp_top.specs.Runs.{IsNoTurn}
 
 -- a text of which one byte too many was read
-too_long : (left now : Option (List ℕ)) (quantity : Quantity) (count : ℕ) → TakesExactly (most Bytes + 1) left now → quantity ≡ Bytes → count ≡ most Bytes + 1 → ReadsSome left now (λ text. Passes text quantity count)
+pub too_long : (left now : Option (List ℕ)) (quantity : Quantity) (count : ℕ) → TakesExactly (most Bytes + 1) left now → quantity ≡ Bytes → count ≡ most Bytes + 1 → ReadsSome left now (λ text. IsTooLong text quantity count)
 too_long None now quantity count takes bytes many = tt
 too_long (Some text) now quantity count takes bytes many =
     let front = takes.0 in
     let rest = takes.2.0 in
     let parts : text ≡ front ++ rest = takes.2.2 in
     let behind : drop (most Bytes + 1) text ≡ rest = ap (drop (most Bytes + 1)) parts ∙ drop_at front rest (most Bytes + 1) takes.1 in
-    (takes.2.1 ∙ ap (λ (r : List ℕ). Some r) (sym behind), inl (record { long = omega (arith, ap length parts, length-append front rest, takes.1); quantity_is = bytes; count_is = many }))
+    (takes.2.1 ∙ ap (λ (r : List ℕ). Some r) (sym behind), record { long = omega (arith, ap length parts, length-append front rest, takes.1); quantity_is = bytes; count_is = many })
+
+pub passes_long : (left now : Option (List ℕ)) (quantity : Quantity) (count : ℕ) → ReadsSome left now (λ text. IsTooLong text quantity count) → ReadsSome left now (λ text. Passes text quantity count)
+passes_long None now quantity count reads = tt
+passes_long (Some text) now quantity count reads = (reads.0, inl reads.1)
 
 -- what keeps a text from being read keeps it from being replayed
 pub input_cause : (left now : Option (List ℕ)) (before after : ℕ) (fault : CommandFault) → HasInputCause left now before after fault → HasReplayCause left now before after fault
 input_cause left now before after faults.Read cause = cause
-input_cause left now before after (faults.Limit quantity count) cause = too_long left now quantity count cause.0 cause.1 cause.2
+input_cause left now before after (faults.Limit quantity count) cause = passes_long left now quantity count (too_long left now quantity count cause.0 cause.1 cause.2)
 input_cause left now before after faults.Memory cause = tt
 input_cause left now before after fault cause = absurd cause
 

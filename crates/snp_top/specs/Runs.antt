@@ -1,7 +1,7 @@
 -- What the program reports of a run, whether the scenario's order lines say its schedule or its threads make it as they go. This project's own.
-use Rattle.std.specs.Prelude.{◌≡◌, ℕ, ◌==◌, Bool, true, false, ◌&&◌, ◌||◌, List, [], length, slice_index_or, codes, bytes_eq, Option, None, Some, Result, Ok, Err}
+use Rattle.std.specs.Prelude.{◌≡◌, ℕ, Bool, true, false, ◌||◌, List, codes, Option, None, Some, Result, Ok, Err}
 use Rattle.snp_model.specs.declared.scenario.Scenario.{Scenario}
-use Rattle.snp_model.specs.CommandLine.{are_words}
+use Rattle.snp_model.specs.CommandLine.{are_words, is_alone, is_replay}
 use Rattle.snp_model.specs.Ending.{report_of}
 use Rattle.snp_model.specs.Premises.{AreLegal}
 use Rattle.snp_model.specs.Journal.{actors_of}
@@ -19,7 +19,11 @@ use Rattle.snp_top.specs.Replays.{HasReplayCause, ReadsText, SaysOne}
 
 -- whether the words are `run` alone
 abbrev pub is_run : List (List ℕ) → Bool
-is_run words = (length words == 1) && bytes_eq (slice_index_or words 0 []) (codes "run")
+is_run words = is_alone (codes "run") words
+
+-- whether they are those of a command that reads a scenario
+abbrev pub reads_scenario : List (List ℕ) → Bool
+reads_scenario words = is_run words || is_replay words
 
 -- whether they are those of any command
 abbrev pub are_commands : List (List ℕ) → Bool

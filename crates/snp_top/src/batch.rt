@@ -1,10 +1,12 @@
 //! The program's commands, from its words to its exit status.
-ghost use Rattle.std.specs.Prelude.{◌≡◌, ℕ, ◌+◌, ◌≤◌, ◌<◌, ◌≢◌, ◌⊎◌, ◌↔◌, ◌^◌, true, false, List, Some, length, map, codes, bytes_eq, string_bytes};
+ghost use Rattle.std.specs.Prelude.{◌≡◌, ℕ, ◌+◌, ◌≤◌, ◌<◌, ◌≢◌, ◌⊎◌, ◌↔◌, ◌^◌, true, false, List, Some, length, map, codes, bytes_eq, string_bytes, IfSome};
 ghost use Rattle.snp_model.specs.declared.scenario.Scenario.{Scenario};
-ghost use Rattle.snp_model.specs.CommandLine.{are_words};
+ghost use Rattle.snp_model.specs.CommandLine.{are_words, is_alone, is_measure, is_replay};
 ghost use Rattle.snp_model.specs.Ending.{report_of};
 ghost use Rattle.snp_model.specs.Premises.{AreLegal};
 ghost use Rattle.snp_model.specs.Limits.{most};
+ghost use Rattle.snp_model.specs.MeasureText.{RefusesPages, SaysPages};
+ghost use Rattle.snp_model.specs.Measurement.{LaunchedPage};
 ghost use Rattle.snp_model.specs.Opening.{opening};
 ghost use Rattle.snp_model.specs.Outside.{Adds, Rose};
 ghost use Rattle.snp_model.specs.Reading.{Passes, Reads, Refuses, order_of};
@@ -13,22 +15,38 @@ ghost use Rattle.snp_model.specs.Run.{IsDefined, IsOrdered};
 ghost use Rattle.snp_top.specs.Batch.{Explains, ForScenario, ReportsTo, SaysBadTurn, SaysCutReport, SaysLimit, SaysRefusal, SaysRun, WritesLine};
 ghost use Rattle.snp_top.specs.Faults.{error_line, exit_status};
 ghost use Rattle.snp_top.specs.Input.{TakesAtMost};
+ghost use Rattle.snp_top.specs.Measures.{SaysCutDigest, SaysPageRefusal, WritesDigest};
 ghost use Rattle.snp_top.specs.Replays.{IsRead};
 ghost use Rattle.snp_top.specs.Schedule.{IsFirstBad};
 
 use crate::errors::put_error;
 use crate::fault::CommandFault;
+use crate::measuring::carry_out_measure;
 use crate::replay::{Played, replay};
 use outside_port::{Sink, Source, write_all};
 use report_text::write_report;
 use snp_model::{Quantity, Reason};
 use std::alloc::Global;
 
-// Whether the words are those of a command.
-fn are_words(words: &Vec<String>) -> bool
-    ensures { result ≡ are_words (map string_bytes words.now.items) }
+// Whether the words are this one alone.
+pub(crate) fn is_alone(name: &[u8], words: &Vec<String>) -> bool
+    ensures { result ≡ is_alone name.now (map string_bytes words.now.items) }
 {
-    words.len() == 1 && is_word(words[0].as_bytes(), b"replay")
+    words.len() == 1 && is_word(words[0].as_bytes(), name)
+}
+
+// Whether the words are `replay` alone.
+fn is_replay(words: &Vec<String>) -> bool
+    ensures { result ≡ is_replay (map string_bytes words.now.items) }
+{
+    is_alone(b"replay", words)
+}
+
+// Whether the words are `measure` alone.
+fn is_measure(words: &Vec<String>) -> bool
+    ensures { result ≡ is_measure (map string_bytes words.now.items) }
+{
+    is_alone(b"measure", words)
 }
 
 pub(crate) fn is_word(word: &[u8], name: &[u8]) -> bool
@@ -38,8 +56,8 @@ pub(crate) fn is_word(word: &[u8], name: &[u8]) -> bool
 }
 
 /// Carries out the command that the words name, reading from the source and writing to the sink, and gives the exit
-/// status: 0 the report was written; 2 the words are no command; 3 a line of the text is refused; 4 the text passes a
-/// limit; 5 the source failed; 6 the sink failed under the report; 7 want of memory, which may come at any growth before
+/// status: 0 the report or the digest was written; 2 the words are no command; 3 a line of the text is refused; 4 the text passes a
+/// limit; 5 the source failed; 6 the sink failed under the report or the digest; 7 want of memory, which may come at any growth before
 /// the first byte is written; 8 the schedule names an actor that is missing or finished. With a status but 0 and 6 one
 /// error line is written. Where a source or a sink doesn't tell its bytes, nothing is said of them.
 pub fn snp_batch<S: Source, K: Sink>(
@@ -48,18 +66,21 @@ pub fn snp_batch<S: Source, K: Sink>(
     source: &mut S,
     sink: &mut K,
 ) -> u8
-    // The headline: the text was read to its end, and it says a scenario whose schedule makes a run.
+    // The headline of `replay`: the text was read to its end, and it says a scenario whose schedule makes a run.
     ensures source_read { result ≡ 0 → IsRead (S.left source.old) (S.left source.new) }
-    ensures scenario_read { result ≡ 0 → SaysRun (S.left source.old) }
+    ensures scenario_read { result ≡ 0 → is_replay (map string_bytes words.now.items) ≡ true → SaysRun (S.left source.old) }
 
     // The report of that run is written, and nothing else.
-    ensures report_written { result ≡ 0 → ForScenario (S.left source.old)
+    ensures report_written { result ≡ 0 → is_replay (map string_bytes words.now.items) ≡ true → ForScenario (S.left source.old)
         (λ c. Adds (K.written sink.old) (K.written sink.new) (report_of c (order_of c))) }
 
     // In it each actor's items come once and in order. And if a guest validates no page that it holds, its private
     // accesses are one legal history of a memory of its own, whatever the hypervisor and the other guests do.
-    ensures items_in_order { result ≡ 0 → ForScenario (S.left source.old) (λ c. IsOrdered c (order_of c)) }
-    ensures guest_memory_legal { result ≡ 0 → ForScenario (S.left source.old) (λ c. AreLegal c (order_of c)) }
+    ensures items_in_order { result ≡ 0 → is_replay (map string_bytes words.now.items) ≡ true → ForScenario (S.left source.old) (λ c. IsOrdered c (order_of c)) }
+    ensures guest_memory_legal { result ≡ 0 → is_replay (map string_bytes words.now.items) ≡ true → ForScenario (S.left source.old) (λ c. AreLegal c (order_of c)) }
+
+    // `measure`: the text says pages, and the line that tells their launch digest is written, and nothing else.
+    ensures digest_written { result ≡ 0 → is_measure (map string_bytes words.now.items) ≡ true → WritesDigest (S.left source.old) (S.left source.new) (K.written sink.old) (K.written sink.new) }
 
     // There are no other statuses than 0 and 2 to 8.
     ensures statuses { (result ≤ 8) × (result ≢ 1) }
@@ -76,23 +97,31 @@ pub fn snp_batch<S: Source, K: Sink>(
     ensures read_line { result ≡ 5 → WritesLine (K.written sink.old) (K.written sink.new) (K.faults sink.old) (K.faults sink.new) (codes "error read\n") }
 
     // A line of it may be the first thing that is wrong.
-    ensures scenario_refused { result ≡ 3 → SaysRefusal (S.left source.old) (S.left source.new) (K.written sink.old) (K.written sink.new) (K.faults sink.old) (K.faults sink.new) }
-    ensures scenario_refused_where { (text : List ℕ) (line : ℕ) (reason : Reason) → are_words (map string_bytes words.now.items) ≡ true → S.left source.old ≡ Some text
+    ensures scenario_refused { result ≡ 3 → is_replay (map string_bytes words.now.items) ≡ true → SaysRefusal (S.left source.old) (S.left source.new) (K.written sink.old) (K.written sink.new) (K.faults sink.old) (K.faults sink.new) }
+    ensures scenario_refused_where { (text : List ℕ) (line : ℕ) (reason : Reason) → is_replay (map string_bytes words.now.items) ≡ true → S.left source.old ≡ Some text
         → Refuses text line reason → (result ≡ 3) ⊎ ((result ≡ 5) ⊎ (result ≡ 7)) }
+    ensures pages_refused { result ≡ 3 → is_measure (map string_bytes words.now.items) ≡ true → SaysPageRefusal (S.left source.old) (S.left source.new) (K.written sink.old) (K.written sink.new) (K.faults sink.old) (K.faults sink.new) }
+    ensures pages_refused_where { (text : List ℕ) (line : ℕ) (reason : Reason) → is_measure (map string_bytes words.now.items) ≡ true → S.left source.old ≡ Some text
+        → RefusesPages text line reason → (result ≡ 3) ⊎ ((result ≡ 5) ⊎ (result ≡ 7)) }
 
-    // Or a limit may be: the text's own length, or a quantity with a line.
+    // Or a limit may be: the text's own length, which is the only one of a measure text, or a quantity with a line.
     ensures limit_passed { result ≡ 4 → SaysLimit (S.left source.old) (S.left source.new) (K.written sink.old) (K.written sink.new) (K.faults sink.old) (K.faults sink.new) }
-    ensures limit_passed_where { (text : List ℕ) (quantity : Quantity) (count : ℕ) → are_words (map string_bytes words.now.items) ≡ true → S.left source.old ≡ Some text
+    ensures limit_passed_where { (text : List ℕ) (quantity : Quantity) (count : ℕ) → is_replay (map string_bytes words.now.items) ≡ true → S.left source.old ≡ Some text
         → Passes text quantity count → (result ≡ 4) ⊎ ((result ≡ 5) ⊎ (result ≡ 7)) }
+    ensures pages_too_long { result ≡ 4 → is_measure (map string_bytes words.now.items) ≡ true → IfSome (S.left source.old) (λ text. most Quantity.Bytes < length text) }
+    ensures pages_too_long_where { (text : List ℕ) → is_measure (map string_bytes words.now.items) ≡ true → S.left source.old ≡ Some text
+        → most Quantity.Bytes < length text → (result ≡ 4) ⊎ ((result ≡ 5) ⊎ (result ≡ 7)) }
 
-    // Else the text says a scenario. Its schedule may name an actor that is missing or finished.
+    // Else the text says a scenario, or pages. A scenario's schedule may name an actor that is missing or finished.
     ensures schedule_refused { result ≡ 8 → SaysBadTurn (S.left source.old) (S.left source.new) (K.written sink.old) (K.written sink.new) (K.faults sink.old) (K.faults sink.new) }
-    ensures schedule_refused_where { (text : List ℕ) (c : Scenario) (entry actor : ℕ) → are_words (map string_bytes words.now.items) ≡ true → S.left source.old ≡ Some text
+    ensures schedule_refused_where { (text : List ℕ) (c : Scenario) (entry actor : ℕ) → is_replay (map string_bytes words.now.items) ≡ true → S.left source.old ≡ Some text
         → Reads text c → IsFirstBad (opening c) (order_of c) entry actor → (result ≡ 8) ⊎ ((result ≡ 5) ⊎ (result ≡ 7)) }
+    ensures pages_have_no_schedule { result ≡ 8 → is_measure (map string_bytes words.now.items) ≡ false }
 
-    // The sink may fail under the report.
+    // The sink may fail under the report, or under the digest.
     ensures write_failed { result ≡ 6 → Rose (K.faults sink.old) (K.faults sink.new) }
-    ensures report_cut { result ≡ 6 → SaysCutReport (S.left source.old) (S.left source.new) (K.written sink.old) (K.written sink.new) }
+    ensures report_cut { result ≡ 6 → is_replay (map string_bytes words.now.items) ≡ true → SaysCutReport (S.left source.old) (S.left source.new) (K.written sink.old) (K.written sink.new) }
+    ensures digest_cut { result ≡ 6 → is_measure (map string_bytes words.now.items) ≡ true → SaysCutDigest (S.left source.old) (S.left source.new) (K.written sink.old) (K.written sink.new) }
 
     // Want of memory is free.
     ensures memory_line { result ≡ 7 → WritesLine (K.written sink.old) (K.written sink.new) (K.faults sink.old) (K.faults sink.new) (codes "error memory\n") }
@@ -100,14 +129,21 @@ pub fn snp_batch<S: Source, K: Sink>(
     // The counts of faults never fall.
     ensures later { (S.faults source.old ≤ S.faults source.new) × (K.faults sink.old ≤ K.faults sink.new) }
 
-    // Nothing else keeps the report from being written.
-    ensures complete { (text : List ℕ) (c : Scenario) → are_words (map string_bytes words.now.items) ≡ true → S.left source.old ≡ Some text
+    // Nothing else keeps the report from being written, nor the digest.
+    ensures complete { (text : List ℕ) (c : Scenario) → is_replay (map string_bytes words.now.items) ≡ true → S.left source.old ≡ Some text
         → Reads text c → IsDefined c (order_of c)
         → (Rose (S.faults source.old) (S.faults source.new) → ⊥) → (Rose (K.faults sink.old) (K.faults sink.new) → ⊥)
         → (result ≡ 0) ⊎ (result ≡ 7) }
+    ensures digest_complete { (text : List ℕ) (pages : List LaunchedPage) → is_measure (map string_bytes words.now.items) ≡ true → S.left source.old ≡ Some text
+        → SaysPages text pages
+        → (Rose (S.faults source.old) (S.faults source.new) → ⊥) → (Rose (K.faults sink.old) (K.faults sink.new) → ⊥)
+        → (result ≡ 0) ⊎ (result ≡ 7) }
 {
-    let outcome = carry_out(alloc, words, source, sink);
-    exit_status(outcome)
+    if is_measure(words) {
+        exit_status(carry_out_measure(alloc, source, sink))
+    } else {
+        exit_status(carry_out(alloc, words, source, sink))
+    }
 }
 
 // The exit status of a command.
@@ -120,7 +156,7 @@ pub(crate) fn exit_status(outcome: Result<(), CommandFault>) -> u8
     }
 }
 
-// Carries a command out.
+// Carries `replay` out, if it is named.
 fn carry_out<S: Source, K: Sink>(
     alloc: Global,
     words: &Vec<String>,
@@ -132,9 +168,9 @@ fn carry_out<S: Source, K: Sink>(
         (record { left = S.left source.new; read_faults = S.faults source.new; written = K.written sink.new; write_faults = K.faults sink.new }) }
     ensures taken { TakesAtMost (most Quantity.Bytes + 1) (S.left source.old) (S.left source.new) }
     ensures later { (S.faults source.old ≤ S.faults source.new) × (K.faults sink.old ≤ K.faults sink.new) }
-    ensures untouched { are_words (map string_bytes words.now.items) ≡ false → source.new ≡ source.old }
+    ensures untouched { is_replay (map string_bytes words.now.items) ≡ false → source.new ≡ source.old }
 {
-    if !are_words(words) {
+    if !is_replay(words) {
         return Err(refuse(CommandFault::Words, sink));
     }
     match replay(alloc, source) {

@@ -7,6 +7,7 @@ pub mod fault;
 pub mod fleet;
 pub mod input;
 pub mod locked_fleet;
+mod measuring;
 pub mod program;
 pub mod replay;
 pub mod run;

@@ -1,19 +1,22 @@
 //! The program's commands, those that need threads among them, from its words to its exit status.
 ghost use Rattle.std.specs.Prelude.{◌≡◌, ℕ, ◌+◌, ◌≤◌, ◌<◌, ◌≢◌, ◌⊎◌, ◌↔◌, true, false, List, Some, IfSome, OnOk, length, map, codes, string_bytes};
 ghost use Rattle.snp_model.specs.declared.scenario.Scenario.{Scenario};
-ghost use Rattle.snp_model.specs.CommandLine.{are_words};
+ghost use Rattle.snp_model.specs.CommandLine.{is_measure, is_replay};
 ghost use Rattle.snp_model.specs.Limits.{most};
+ghost use Rattle.snp_model.specs.MeasureText.{RefusesPages, SaysPages};
+ghost use Rattle.snp_model.specs.Measurement.{LaunchedPage};
 ghost use Rattle.snp_model.specs.Opening.{opening};
 ghost use Rattle.snp_model.specs.Outside.{Adds, AddsPrefix, Rose};
 ghost use Rattle.snp_model.specs.Reading.{Passes, Reads, Refuses, order_of};
 ghost use Rattle.snp_model.specs.Run.{IsDefined};
 ghost use Rattle.snp_top.specs.Batch.{SaysBadTurn, SaysLimit, SaysRefusal, WritesLine};
 ghost use Rattle.snp_top.specs.Input.{TakesAtMost};
+ghost use Rattle.snp_top.specs.Measures.{SaysCutDigest, SaysPageRefusal, WritesDigest};
 ghost use Rattle.snp_top.specs.Replays.{IsRead, ReadsText, SaysOne};
-ghost use Rattle.snp_top.specs.Runs.{ExplainsRun, IsReported, ReportsKept, are_commands, is_run};
+ghost use Rattle.snp_top.specs.Runs.{ExplainsRun, IsReported, ReportsKept, are_commands, is_run, reads_scenario};
 ghost use Rattle.snp_top.specs.Schedule.{IsFirstBad};
 
-use crate::batch::{exit_status, is_word, refuse, snp_batch};
+use crate::batch::{exit_status, is_alone, refuse, snp_batch};
 use crate::fault::CommandFault;
 use crate::fleet::Fleet;
 use crate::replay::read;
@@ -28,7 +31,7 @@ use std::thread::Threads;
 fn is_run(words: &Vec<String>) -> bool
     ensures { result ≡ is_run (map string_bytes words.now.items) }
 {
-    words.len() == 1 && is_word(words[0].as_bytes(), b"run")
+    is_alone(b"run", words)
 }
 
 /// Carries out the command that the words name, as `snp_batch` does, and `run` besides: it reads a scenario, passes over
@@ -44,15 +47,18 @@ pub fn snp_main<S: Source, K: Sink, G: Gate + Sync, F: Fleet, R: Threads + Wait 
     gate: &G,
     fleet: &mut F,
 ) -> u8
-    // The headline: the text was read to its end, and it says a scenario. The report of one run of it is written, and
-    // nothing else. The schedule of that run is that of the order lines, or, under `run`, one that finishes every actor.
+    // The headline, but for `measure`: the text was read to its end, and it says a scenario. The report of one run of it
+    // is written, and nothing else. The schedule of that run is that of the order lines, or, under `run`, one that finishes every actor.
     ensures source_read { result ≡ 0 → IsRead (S.left source.old) (S.left source.new) }
-    ensures reported { result ≡ 0 → IfSome (S.left source.old)
+    ensures reported { result ≡ 0 → reads_scenario (map string_bytes words.now.items) ≡ true → IfSome (S.left source.old)
         (SaysOne (λ c. IsReported (is_run (map string_bytes words.now.items)) c (Adds (K.written sink.old) (K.written sink.new)))) }
 
     // Under `run` what was written is the report of the run that the fleet keeps, unless the scenario has no actor.
     ensures fleet_keeps { result ≡ 0 → is_run (map string_bytes words.now.items) ≡ true → IfSome (S.left source.old)
         (SaysOne (λ c. 0 < length c.actors → ReportsKept c (F.kept fleet.new) (K.written sink.old) (K.written sink.new))) }
+
+    // Under `measure` the text says pages, and the line that tells their launch digest is written, and nothing else.
+    ensures digest_written { result ≡ 0 → is_measure (map string_bytes words.now.items) ≡ true → WritesDigest (S.left source.old) (S.left source.new) (K.written sink.old) (K.written sink.new) }
 
     // There are no other statuses than 0 and 2 to 8.
     ensures statuses { (result ≤ 8) × (result ≢ 1) }
@@ -69,25 +75,34 @@ pub fn snp_main<S: Source, K: Sink, G: Gate + Sync, F: Fleet, R: Threads + Wait 
     ensures read_line { result ≡ 5 → WritesLine (K.written sink.old) (K.written sink.new) (K.faults sink.old) (K.faults sink.new) (codes "error read\n") }
 
     // A line of it may be the first thing that is wrong.
-    ensures scenario_refused { result ≡ 3 → SaysRefusal (S.left source.old) (S.left source.new) (K.written sink.old) (K.written sink.new) (K.faults sink.old) (K.faults sink.new) }
-    ensures scenario_refused_where { (text : List ℕ) (line : ℕ) (reason : Reason) → are_commands (map string_bytes words.now.items) ≡ true → S.left source.old ≡ Some text
+    ensures scenario_refused { result ≡ 3 → reads_scenario (map string_bytes words.now.items) ≡ true → SaysRefusal (S.left source.old) (S.left source.new) (K.written sink.old) (K.written sink.new) (K.faults sink.old) (K.faults sink.new) }
+    ensures scenario_refused_where { (text : List ℕ) (line : ℕ) (reason : Reason) → reads_scenario (map string_bytes words.now.items) ≡ true → S.left source.old ≡ Some text
         → Refuses text line reason → (result ≡ 3) ⊎ ((result ≡ 5) ⊎ (result ≡ 7)) }
+    ensures pages_refused { result ≡ 3 → is_measure (map string_bytes words.now.items) ≡ true → SaysPageRefusal (S.left source.old) (S.left source.new) (K.written sink.old) (K.written sink.new) (K.faults sink.old) (K.faults sink.new) }
+    ensures pages_refused_where { (text : List ℕ) (line : ℕ) (reason : Reason) → is_measure (map string_bytes words.now.items) ≡ true → S.left source.old ≡ Some text
+        → RefusesPages text line reason → (result ≡ 3) ⊎ ((result ≡ 5) ⊎ (result ≡ 7)) }
 
-    // Or a limit may be: the text's own length, or a quantity with a line.
+    // Or a limit may be: the text's own length, which is the only one of a measure text, or a quantity with a line.
     ensures limit_passed { result ≡ 4 → SaysLimit (S.left source.old) (S.left source.new) (K.written sink.old) (K.written sink.new) (K.faults sink.old) (K.faults sink.new) }
-    ensures limit_passed_where { (text : List ℕ) (quantity : Quantity) (count : ℕ) → are_commands (map string_bytes words.now.items) ≡ true → S.left source.old ≡ Some text
+    ensures limit_passed_where { (text : List ℕ) (quantity : Quantity) (count : ℕ) → reads_scenario (map string_bytes words.now.items) ≡ true → S.left source.old ≡ Some text
         → Passes text quantity count → (result ≡ 4) ⊎ ((result ≡ 5) ⊎ (result ≡ 7)) }
+    ensures pages_too_long { result ≡ 4 → is_measure (map string_bytes words.now.items) ≡ true → IfSome (S.left source.old) (λ text. most Quantity.Bytes < length text) }
+    ensures pages_too_long_where { (text : List ℕ) → is_measure (map string_bytes words.now.items) ≡ true → S.left source.old ≡ Some text
+        → most Quantity.Bytes < length text → (result ≡ 4) ⊎ ((result ≡ 5) ⊎ (result ≡ 7)) }
 
-    // Else the text says a scenario. Its schedule may name an actor that is missing or finished; `run` doesn't look at it.
+    // Else the text says a scenario, or pages. A scenario's schedule may name an actor that is missing or finished; `run`
+    // doesn't look at it.
     ensures schedule_refused { result ≡ 8 → SaysBadTurn (S.left source.old) (S.left source.new) (K.written sink.old) (K.written sink.new) (K.faults sink.old) (K.faults sink.new) }
     ensures run_has_no_schedule { result ≡ 8 → is_run (map string_bytes words.now.items) ≡ false }
-    ensures schedule_refused_where { (text : List ℕ) (c : Scenario) (entry actor : ℕ) → are_words (map string_bytes words.now.items) ≡ true → S.left source.old ≡ Some text
+    ensures pages_have_no_schedule { result ≡ 8 → is_measure (map string_bytes words.now.items) ≡ false }
+    ensures schedule_refused_where { (text : List ℕ) (c : Scenario) (entry actor : ℕ) → is_replay (map string_bytes words.now.items) ≡ true → S.left source.old ≡ Some text
         → Reads text c → IsFirstBad (opening c) (order_of c) entry actor → (result ≡ 8) ⊎ ((result ≡ 5) ⊎ (result ≡ 7)) }
 
-    // The sink may fail under the report.
+    // The sink may fail under the report, or under the digest.
     ensures write_failed { result ≡ 6 → Rose (K.faults sink.old) (K.faults sink.new) }
-    ensures report_cut { result ≡ 6 → ReadsText (S.left source.old) (S.left source.new)
+    ensures report_cut { result ≡ 6 → reads_scenario (map string_bytes words.now.items) ≡ true → ReadsText (S.left source.old) (S.left source.new)
         (SaysOne (λ c. IsReported (is_run (map string_bytes words.now.items)) c (AddsPrefix (K.written sink.old) (K.written sink.new)))) }
+    ensures digest_cut { result ≡ 6 → is_measure (map string_bytes words.now.items) ≡ true → SaysCutDigest (S.left source.old) (S.left source.new) (K.written sink.old) (K.written sink.new) }
 
     // Want of memory is free.
     ensures memory_line { result ≡ 7 → WritesLine (K.written sink.old) (K.written sink.new) (K.faults sink.old) (K.faults sink.new) (codes "error memory\n") }
@@ -96,14 +111,20 @@ pub fn snp_main<S: Source, K: Sink, G: Gate + Sync, F: Fleet, R: Threads + Wait 
     ensures later { (S.faults source.old ≤ S.faults source.new) × (K.faults sink.old ≤ K.faults sink.new) }
 
     // Nothing else keeps the report from being written: neither that of a replay whose schedule makes a run,
-    ensures replay_complete { (text : List ℕ) (c : Scenario) → are_words (map string_bytes words.now.items) ≡ true → S.left source.old ≡ Some text
+    ensures replay_complete { (text : List ℕ) (c : Scenario) → is_replay (map string_bytes words.now.items) ≡ true → S.left source.old ≡ Some text
         → Reads text c → IsDefined c (order_of c)
         → (Rose (S.faults source.old) (S.faults source.new) → ⊥) → (Rose (K.faults sink.old) (K.faults sink.new) → ⊥)
         → (result ≡ 0) ⊎ (result ≡ 7) }
 
-    // nor that of `run`, whatever the order lines are.
+    // nor that of `run`, whatever the order lines are,
     ensures run_complete { (text : List ℕ) (c : Scenario) → is_run (map string_bytes words.now.items) ≡ true → S.left source.old ≡ Some text
         → Reads text c
+        → (Rose (S.faults source.old) (S.faults source.new) → ⊥) → (Rose (K.faults sink.old) (K.faults sink.new) → ⊥)
+        → (result ≡ 0) ⊎ (result ≡ 7) }
+
+    // nor the digest of pages.
+    ensures digest_complete { (text : List ℕ) (pages : List LaunchedPage) → is_measure (map string_bytes words.now.items) ≡ true → S.left source.old ≡ Some text
+        → SaysPages text pages
         → (Rose (S.faults source.old) (S.faults source.new) → ⊥) → (Rose (K.faults sink.old) (K.faults sink.new) → ⊥)
         → (result ≡ 0) ⊎ (result ≡ 7) }
 {

@@ -23,7 +23,7 @@ returns-then-has_locked-clause-moves g c =
     let at = c.args.at.now in
     let one = has_one (IsLockOfPage stock at.frame) c.args.actor.now.standing.locks (sym c.has_locked.ensures ∙ c.if-has_locked.true) c.requires.tested.lock in
     adjust_commits c.args.guests.now c.args.actor.now (processor_of c.args.cpu) c.args.ask.now.size c.args.ask.now.target c.args.ask.now.mask c.args.ask.now.vmsa at.gpn at.private at.frame at.size one.lock stock (g.P.Parts.stock c.commit_page.new.parts) c.commit_page.new.shown one.are one.holds
-    c.commit_page.ensures.shown c.commit_page.ensures.pages
+    c.commit_page.ensures.shown c.commit_page.ensures.pages c.commit_page.ensures.contexts
 
 pub returns-else-has_locked-clause-moves : goal.returns-else-has_locked-clause-moves
 returns-else-has_locked-clause-moves g c =
@@ -31,4 +31,4 @@ returns-else-has_locked-clause-moves g c =
     let at = c.args.at.now in
     let none = has_none (IsLockOfPage stock at.frame) c.args.actor.now.standing (sym c.has_locked.ensures ∙ c.if-has_locked.false) c.requires.tested in
     adjust_locks c.args.guests.now c.args.actor.now (processor_of c.args.cpu) c.args.ask.now.size c.args.ask.now.target c.args.ask.now.mask c.args.ask.now.vmsa at.gpn at.private at.frame at.size stock (g.P.Parts.stock c.lock_page.new.parts) c.lock_page.new.shown none
-    (c.lock_page.ensures.shown ∙ ap (λ (place : Place). lock_shown (page_lock (pages_of stock.bays at.frame).facts.size at.frame) (page_refused (adjust_refusal place c.args.ask.now.size c.args.ask.now.mask c.args.ask.now.vmsa) at.frame stock)) c.page_place-place.ensures.place) c.lock_page.ensures.pages
+    (c.lock_page.ensures.shown ∙ ap (λ (place : Place). lock_shown (page_lock (pages_of stock.bays at.frame).facts.size at.frame) (page_refused (adjust_refusal place c.args.ask.now.size c.args.ask.now.mask c.args.ask.now.vmsa) at.frame stock)) c.page_place-place.ensures.place) c.lock_page.ensures.pages c.lock_page.ensures.contexts

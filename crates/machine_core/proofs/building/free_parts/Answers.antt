@@ -11,4 +11,4 @@ pub returns-clause-words : goal.returns-clause-words
 returns-clause-words c = ap (λ (bays : List Bay). words_of (own_bays bays)) c.in_ok-free_bays.ensures ∙ free_words c.args.regions
 
 pub returns-clause-locks : goal.returns-clause-locks
-returns-clause-locks c = ap (λ (bays : List Bay). locks_of (own_stock bays)) c.in_ok-free_bays.ensures ∙ free_locks c.args.regions
+returns-clause-locks c = (λ i. locks_of (own_stock (c.in_ok-free_bays.ensures i) (c.in_ok-first_contexts.ensures i))) ∙ free_locks c.args.regions c.args.guests.now

@@ -7,7 +7,7 @@ use Rattle.machine_core.specs.Moves.{processor_of}
 use Rattle.machine_core.proofs.ArrivedLaws.{not_arrived}
 use Rattle.machine_core.proofs.CpuLaws.{walk_begins, walk_begun, table_shows}
 use Rattle.machine_core.proofs.WalkingLaws.{is_reading}
-use Rattle.machine_core.proofs.TouchLaws.{data_has, need_has, nested_has, table_has}
+use Rattle.machine_core.proofs.TouchLaws.{begin_has, data_has, need_has, nested_has, table_has}
 use Rattle.machine_core.proofs.cpu.walk.Goals as goal
 
 pub read_nested-requires-clause-has : goal.read_nested-requires-clause-has
@@ -48,7 +48,7 @@ returns-then-is_empty-clause-moves g c =
     let walker = c.args.walker.now in
     let view = view_on (g.P.Parts.stock c.args.parts.now) c.args.guests.now in
     walk_begins c.args.frames c.args.guests.now view c.args.actor.now (processor_of walker.cpu) walker.lookup c.args.refusal arrives c.args.actor.now.deeds (grind (arith, common_steps))
-    ∙ c.begin.ensures.moves view c.args.actor.now
+    ∙ c.begin.ensures.moves view c.args.actor.now c.args.guests.now
 
 pub returns-in-Table-clause-moves : goal.returns-in-Table-clause-moves
 returns-in-Table-clause-moves g c =
@@ -73,3 +73,8 @@ pub returns-then-is_empty-clause-arrived : goal.returns-then-is_empty-clause-arr
 returns-then-is_empty-clause-arrived g c =
     let walker = c.args.walker.now in
     not_arrived c.args.frames (processor_of walker.cpu) walker.lookup c.args.actor.now.deeds (grind (arith, common_steps))
+
+pub begin-requires : goal.begin-requires
+begin-requires g c =
+    let walker = c.args.walker.now in
+    begin_has c.args.frames (processor_of walker.cpu) walker.lookup c.args.actor.now.deeds (g.P.Parts.stock c.args.parts.now) (grind (arith, common_steps)) c.requires.has

@@ -34,10 +34,10 @@ returns-then-has_locked-clause-moves g c =
     let stock = g.P.Parts.stock c.args.parts.now in
     let one = has_one (IsSmashLock c.args.frames (contents_of stock c.args.guests.now) c.args.frame) c.args.actor.now.standing.locks (sym c.has_locked.ensures ∙ c.if-has_locked.true) c.requires.tested.lock in
     commit_moves c.args.frames c.args.guests.now c.args.frame c.args.actor.now one.lock stock (g.P.Parts.stock c.commit_page.new.parts) c.commit_page.new.shown one.are (smash_lock_is c.args.frames c.args.guests.now c.args.frame one.lock stock one.holds)
-    c.commit_page.ensures.shown c.commit_page.ensures.pages
+    c.commit_page.ensures.shown c.commit_page.ensures.pages c.commit_page.ensures.contexts
 
 pub returns-else-has_locked-clause-moves : goal.returns-else-has_locked-clause-moves
 returns-else-has_locked-clause-moves g c =
     let stock = g.P.Parts.stock c.args.parts.now in
     let none = has_none (IsSmashLock c.args.frames (contents_of stock c.args.guests.now) c.args.frame) c.args.actor.now.standing (sym c.has_locked.ensures ∙ c.if-has_locked.false) c.requires.tested in
-    lock_moves c.args.frames c.args.guests.now c.args.frame c.args.actor.now stock (g.P.Parts.stock c.lock_page.new.parts) c.lock_page.new.shown none c.lock_page.ensures.shown c.lock_page.ensures.pages
+    lock_moves c.args.frames c.args.guests.now c.args.frame c.args.actor.now stock (g.P.Parts.stock c.lock_page.new.parts) c.lock_page.new.shown none c.lock_page.ensures.shown c.lock_page.ensures.pages c.lock_page.ensures.contexts

@@ -24,10 +24,10 @@ pub returns-then-has_locked-clause-moves : goal.returns-then-has_locked-clause-m
 returns-then-has_locked-clause-moves g c =
     let stock = g.P.Parts.stock c.args.parts.now in
     let one = has_one (IsUpdateLock c.args.frames (contents_of stock c.args.guests.now) c.args.update.now) c.args.actor.now.standing.locks (sym c.has_locked.ensures ∙ c.if-has_locked.true) c.requires.tested.lock in
-    commit_moves c.args.frames c.args.guests.now c.args.update.now c.args.actor.now one.lock stock (g.P.Parts.stock c.commit_range.new.parts) c.commit_range.new.shown one.are one.holds.covers c.commit_range.ensures.shown c.commit_range.ensures.pages
+    commit_moves c.args.frames c.args.guests.now c.args.update.now c.args.actor.now one.lock stock (g.P.Parts.stock c.commit_range.new.parts) c.commit_range.new.shown one.are one.holds.covers c.commit_range.ensures.shown c.commit_range.ensures.pages c.commit_range.ensures.contexts
 
 pub returns-else-has_locked-clause-moves : goal.returns-else-has_locked-clause-moves
 returns-else-has_locked-clause-moves g c =
     let stock = g.P.Parts.stock c.args.parts.now in
     let none = has_none (IsUpdateLock c.args.frames (contents_of stock c.args.guests.now) c.args.update.now) c.args.actor.now.standing (sym c.has_locked.ensures ∙ c.if-has_locked.false) c.requires.tested in
-    lock_moves c.args.frames c.args.guests.now c.args.update.now c.args.actor.now stock (g.P.Parts.stock c.lock_range.new.parts) c.lock_range.new.shown none c.lock_range.ensures.shown c.lock_range.ensures.pages
+    lock_moves c.args.frames c.args.guests.now c.args.update.now c.args.actor.now stock (g.P.Parts.stock c.lock_range.new.parts) c.lock_range.new.shown none c.lock_range.ensures.shown c.lock_range.ensures.pages c.lock_range.ensures.contexts

@@ -9,4 +9,4 @@ report-requires g c =
     record { version = version; short = omega arith }
 
 pub returns-in-Ok-clause-explained : goal.returns-in-Ok-clause-explained
-returns-in-Ok-clause-explained g c = explains_report c.report.result (map string_bytes c.args.words.now.items) _ _ c.in-Ok.played (sym c.are_words.ensures ∙ c.if-not-are_words.false) c.in-Ok.ensures.answer c.report.ensures.written
+returns-in-Ok-clause-explained g c = explains_report c.report.result (map string_bytes c.args.words.now.items) _ _ c.in-Ok.played (sym c.is_replay.ensures ∙ c.if-not-is_replay.false) c.in-Ok.ensures.answer c.report.ensures.written

@@ -1,9 +1,11 @@
-use Rattle.std.proofs.Common.{◌≡◌, ℕ, List, map, ap, ◌∙◌}
+use Rattle.std.proofs.Common.{◌≡◌, ℕ, List, length, map, ap, ◌∙◌}
+use Rattle.std.proofs.lemmas.List.{length-map}
 use Rattle.snp_model.specs.declared.entry.RmpEntry.{RmpEntry}
 use Rattle.snp_model.specs.Facts.{free_entry}
 use Rattle.snp_model.specs.Opening.{facts_from, words_from, opening_part}
+use Rattle.snp_model.specs.HeldContexts.{opening_held}
 use Rattle.snp_model.specs.State.{zero_words}
-use Rattle.machine_core.specs.Bays.{facts_of, own_bays, words_of}
+use Rattle.machine_core.specs.Bays.{facts_of, own_bays, own_contexts, words_of}
 use Rattle.machine_core.proofs.OpeningLaws.{IsBuilt, opened, built_machine, short_scripts}
 use Rattle.snp_model.proofs.OpeningParts.{opening_shaped}
 use Rattle.snp_model.proofs.SoundLaws.{valid_is_sound}
@@ -45,15 +47,17 @@ invariant_of-result c =
     let actors : c.as_slice-3.result.now ≡ scenario.actors = c.as_slice-3.ensures in
     let kept : c.in_ok-guests.guests ≡ c.as_slice-guests.result.now = c.in_ok-guests.ensures in
     let parts : c.in_ok-actors.actors.items ≡ map opening_part c.as_slice-3.result.now = c.in_ok-actors.ensures in
-    let built : IsBuilt scenario c.set_words.new.parts.bays.items c.in_ok-guests.guests c.in_ok-actors.actors.items = record {
+    let built : IsBuilt scenario c.set_words.new.parts.bays.items c.set_words.new.parts.contexts.items c.in_ok-guests.guests c.in_ok-actors.actors.items = record {
       regions = c.set_words.ensures.regions ∙ c.set_pages.ensures.regions ∙ c.in_ok-parts.ensures.regions;
       facts = c.set_words.ensures.facts ∙ c.set_pages.ensures.facts ∙ (λ i. facts_from (guests i) (free i) (pages i));
       words = c.set_words.ensures.words ∙ (λ i. words_from (c.set_pages.ensures.words i) (words i)) ∙ ap (λ (w : ℕ → List ℕ). words_from w scenario.words) zero;
       locks = c.set_words.ensures.locks ∙ c.set_pages.ensures.locks ∙ c.in_ok-parts.ensures.locks;
+      contexts_are = c.set_words.ensures.contexts ∙ c.set_pages.ensures.contexts ∙ ap own_contexts (c.in_ok-parts.ensures.contexts ∙ ap (map opening_held) guests);
+      contexts_all = c.set_words.ensures.guests ∙ c.set_pages.ensures.guests ∙ ap length (c.in_ok-parts.ensures.contexts ∙ ap (map opening_held) guests) ∙ length-map scenario.guests opening_held;
       guests_are = kept ∙ guests;
       actors_are = parts ∙ ap (map opening_part) actors;
     } in
-    built_machine scenario c.set_words.new.parts.bays.items c.in_ok-guests.guests c.in_ok-actors.actors.items sound (opening_shaped scenario sound) built
+    built_machine scenario c.set_words.new.parts.bays.items c.set_words.new.parts.contexts.items c.in_ok-guests.guests c.in_ok-actors.actors.items sound (opening_shaped scenario sound) built
 
 pub returns : goal.returns
 returns c =
@@ -66,12 +70,14 @@ returns c =
     let actors : c.as_slice-3.result.now ≡ scenario.actors = c.as_slice-3.ensures in
     let kept : c.in_ok-guests.guests ≡ c.as_slice-guests.result.now = c.in_ok-guests.ensures in
     let parts : c.in_ok-actors.actors.items ≡ map opening_part c.as_slice-3.result.now = c.in_ok-actors.ensures in
-    let built : IsBuilt scenario c.set_words.new.parts.bays.items c.in_ok-guests.guests c.in_ok-actors.actors.items = record {
+    let built : IsBuilt scenario c.set_words.new.parts.bays.items c.set_words.new.parts.contexts.items c.in_ok-guests.guests c.in_ok-actors.actors.items = record {
       regions = c.set_words.ensures.regions ∙ c.set_pages.ensures.regions ∙ c.in_ok-parts.ensures.regions;
       facts = c.set_words.ensures.facts ∙ c.set_pages.ensures.facts ∙ (λ i. facts_from (guests i) (free i) (pages i));
       words = c.set_words.ensures.words ∙ (λ i. words_from (c.set_pages.ensures.words i) (words i)) ∙ ap (λ (w : ℕ → List ℕ). words_from w scenario.words) zero;
       locks = c.set_words.ensures.locks ∙ c.set_pages.ensures.locks ∙ c.in_ok-parts.ensures.locks;
+      contexts_are = c.set_words.ensures.contexts ∙ c.set_pages.ensures.contexts ∙ ap own_contexts (c.in_ok-parts.ensures.contexts ∙ ap (map opening_held) guests);
+      contexts_all = c.set_words.ensures.guests ∙ c.set_pages.ensures.guests ∙ ap length (c.in_ok-parts.ensures.contexts ∙ ap (map opening_held) guests) ∙ length-map scenario.guests opening_held;
       guests_are = kept ∙ guests;
       actors_are = parts ∙ ap (map opening_part) actors;
     } in
-    opened scenario c.set_words.new.parts.bays.items c.in_ok-guests.guests c.in_ok-actors.actors.items built
+    opened scenario c.set_words.new.parts.bays.items c.set_words.new.parts.contexts.items c.in_ok-guests.guests c.in_ok-actors.actors.items built

@@ -1,0 +1,42 @@
+ghost use Rattle.std.specs.Prelude.{◌≡◌, [], None, Some};
+ghost use Rattle.snp_model.specs.declared.entry.PageSize.TheVariants.{Small};
+ghost use Rattle.snp_model.specs.declared.event.Outcome.TheVariants.{Firmware};
+ghost use Rattle.snp_model.specs.Firmware.{success};
+ghost use Rattle.snp_model.specs.FirmwareCommits.{at_frame, metadata_page};
+ghost use Rattle.snp_model.specs.FirmwareStep.{page_shown};
+ghost use Rattle.snp_model.specs.KeptLocks.{relocked};
+ghost use Rattle.snp_model.specs.Locks.{page_lock};
+ghost use Rattle.machine_core.specs.Bays.{HasFrame, holders_of, pages_of};
+ghost use Rattle.machine_core.specs.CommandPages.{IsTestedFrame};
+ghost use Rattle.machine_core.specs.Ranges.{HoldsLock};
+
+use crate::parts::Parts;
+use crate::shown::Shown;
+use fw_reclaim::md_commit;
+use snp_model::{Deed, Outcome};
+
+/// The commit of SNP_PAGE_MD_INIT, which releases the lock: the frame becomes a Metadata page with zero words. It names the
+/// frame with the guest page number and the size that it had.
+pub fn commit_metadata<P: Parts>(parts: &mut P, number: u32, frame: u64, shown: &mut Shown)
+    requires has { HasFrame (P.stock parts.old) frame }
+    requires tested { IsTestedFrame frame (P.stock parts.old) }
+    requires holds { HoldsLock number (page_lock Small frame) (P.stock parts.old) }
+    ensures shown { shown.new ≡ record { deed = page_shown frame (pages_of (P.stock parts.old).bays frame); outcome = Some (Firmware success); lock = None } }
+    ensures pages { pages_of (P.stock parts.new).bays ≡ at_frame frame (metadata_page (pages_of (P.stock parts.old).bays frame)) (pages_of (P.stock parts.old).bays) }
+    ensures locks { holders_of (P.stock parts.new).bays ≡ relocked number [] (holders_of (P.stock parts.old).bays) }
+    ensures contexts { (P.stock parts.new).contexts ≡ (P.stock parts.old).contexts }
+    ensures kept { P.kept parts.old parts.new }
+{
+    let frame = frame as u32;
+    let slot = (frame % 512) as usize;
+    let bay = parts.bay_mut(frame / 512);
+    let entry = bay.rmp.effective(slot);
+    md_commit(&mut bay.memory, &mut bay.rmp, slot);
+    bay.rmp.unlock(number);
+    let deed = Deed::Commit {
+        frame,
+        gpn: entry.gpn,
+        size: entry.size,
+    };
+    *shown = Shown::last(deed, Outcome::Firmware(0));
+}

@@ -1,0 +1,2 @@
+mod OnePassLaws
+mod TextLaws
