@@ -28,7 +28,7 @@ use Rattle.machine_core.specs.Ranges.{HoldsLock, HoldsNone}
 use Rattle.machine_core.proofs.RangeLaws.{relocked_none}
 
 -- an actor that has locked nothing holds no lock
-holds_none : (actor : ℕ) (part : ActorPart) (stock : Stock) → OwnsLocks actor part (holders_of stock.bays) → part.standing ≡ nothing_taken → HoldsNone actor stock
+pub holds_none : (actor : ℕ) (part : ActorPart) (stock : Stock) → OwnsLocks actor part (holders_of stock.bays) → part.standing ≡ nothing_taken → HoldsNone actor stock
 holds_none actor part stock owns none frame held = true≢false (sym (owns.only frame held) ∙ ap (λ (s : Standing). locks_frame frame (record part { standing = s })) none)
 
 none_left : (outcome : Option Outcome) (lock : Option Taken) (standing : Standing) → lock ≡ None → standing ≡ nothing_taken → locks_left outcome (with_taken lock standing).locks ≡ []

@@ -3,8 +3,10 @@ pub mod ArrivedLaws
 pub mod BaysLaws
 pub mod BuildingLaws
 pub mod CommandLaws
-pub mod ContextsLaws
+pub mod CommitLaws
 pub mod CommittedLaws
+pub mod ContextEventLaws
+pub mod ContextsLaws
 pub mod CpuLaws
 pub mod DeclaredLaws
 pub mod FirmwareTouchLaws
@@ -16,6 +18,7 @@ pub mod OpeningLaws
 pub mod PageCommitLaws
 pub mod PageLaws
 pub mod PageMoveLaws
+pub mod PhaseLaws
 pub mod RangeLaws
 pub mod ReadyLaws
 pub mod ReleaseLaws

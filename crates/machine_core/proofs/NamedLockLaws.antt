@@ -246,7 +246,7 @@ next_unheld frames guests actor command part page stock is next held tested owns
 
 -- What it shows
 
-quiet_contents : (guests : List GuestSpec) (part : ActorPart) (old new : Stock) (same shown : Shown) → shown ≡ same → pages_of new.bays ≡ pages_of old.bays → contexts_of new.contexts guests ≡ contexts_of old.contexts guests
+pub quiet_contents : (guests : List GuestSpec) (part : ActorPart) (old new : Stock) (same shown : Shown) → shown ≡ same → pages_of new.bays ≡ pages_of old.bays → contexts_of new.contexts guests ≡ contexts_of old.contexts guests
     → move_by same (view_on old guests) (standing_by same part.standing) ≡ move_by shown (view_on new guests) (standing_by shown part.standing)
 quiet_contents guests part old new same shown is pages contexts =
     ap (λ (s : Shown). move_by s (view_on old guests) (standing_by s part.standing)) (sym is)

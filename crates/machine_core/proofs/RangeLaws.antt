@@ -135,25 +135,6 @@ holders_released stock new_stock region actor old new is left within = λ i f. e
         read_beside holder_in stock new_stock region old new is f apart ∙ sym (released_other actor (by_frame holder_in stock.bays f) (λ held. apart (within f held))))
         (cases_eq (f / 512) region)
 
--- an actor has released its locks in one region
-pub region_released : (stock new_stock : Stock) (region actor : ℕ) (old new : Bay) → IsPut stock new_stock region old new → holder_in (Some new) ≡ (λ (slot : ℕ). released actor (holder_in (Some old) slot))
-    → holders_of new_stock.bays ≡ (λ (f : ℕ). cond (eqb (f / 512) region) (released actor (holders_of stock.bays f)) (holders_of stock.bays f))
-unfolding holders_of
-region_released stock new_stock region actor old new is left = λ i f. each f i
-  where
-    each : (f : ℕ) → by_frame holder_in new_stock.bays f ≡ cond (eqb (f / 512) region) (released actor (by_frame holder_in stock.bays f)) (by_frame holder_in stock.bays f)
-    each f =
-        let held = by_frame holder_in stock.bays f in
-        ⊎_elim
-        (λ (here : f / 512 ≡ region).
-        let own : eqb (f / 512) region ≡ true = grind (arith, nat_tests) in
-        read_new holder_in stock new_stock region old new is f here ∙ (λ i. left i (f % 512)) ∙ ap (released actor) (sym (read_old holder_in stock new_stock region old new is f here))
-        ∙ ap (λ (b : Bool). cond b (released actor held) held) (sym own))
-        (λ (apart : f / 512 ≢ region).
-        let other : eqb (f / 512) region ≡ false = grind (arith, nat_tests) in
-        read_beside holder_in stock new_stock region old new is f apart ∙ ap (λ (b : Bool). cond b (released actor held) held) (sym other))
-        (cases_eq (f / 512) region)
-
 -- an actor without a lock has none to release
 pub relocked_none : (actor : ℕ) (holder : ℕ → Option ℕ) → ((f : ℕ) → holder f ≢ Some actor) → relocked actor [] holder ≡ holder
 relocked_none actor holder none = λ i f. released_other actor (holder f) (none f) i

@@ -39,7 +39,7 @@ no_more [] pages each = omega arith
 no_more (lock ∷ locks) [] each = absurd (each 0 lock refl refl)
 no_more (lock ∷ locks) (page ∷ pages) each = let rest = no_more locks pages (λ number l. each (suc number) l) in omega arith
 
-few_locks : (frames : ℕ) (guests : List GuestSpec) (contents : Contents) (command : Command) (standing : Standing) → IsReady frames guests contents command standing → length standing.locks ≤ length (command_pages command)
+pub few_locks : (frames : ℕ) (guests : List GuestSpec) (contents : Contents) (command : Command) (standing : Standing) → IsReady frames guests contents command standing → length standing.locks ≤ length (command_pages command)
 few_locks frames guests contents command standing ready =
     no_more standing.locks (command_pages command) (λ number lock is none. let e = sym (ready.tested.pages number lock is).page_is ∙ none in cc)
 

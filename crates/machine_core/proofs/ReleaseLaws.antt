@@ -12,6 +12,7 @@ use Rattle.snp_model.specs.Touches.{region_of, touches_frame}
 use Rattle.machine_core.specs.declared.taken_lock.TakenLock.{TakenLock}
 use Rattle.machine_core.specs.Actors.{page_lock_of}
 use Rattle.machine_core.specs.Bays.{HasTouched, Stock}
+use Rattle.machine_core.specs.CommandPages.{released_in}
 use Rattle.machine_core.specs.Commands.{AreInOneRegion, frames_touched, let_go_in}
 use Rattle.machine_core.proofs.RangeLaws.{released_other}
 
@@ -89,7 +90,7 @@ all_let_go actor locks holder regions only = λ i frame. each frame (holder fram
 
 -- one region more
 pub let_go_next : (actor : ℕ) (locks : List TakenLock) (place : ℕ) (lock : TakenLock) (old new : ℕ → Option ℕ) → place < length locks
-    → new ≡ (λ (f : ℕ). cond (eqb (f / 512) ((get_or locks place lock).frame / 512)) (released actor (old f)) (old f))
+    → new ≡ released_in ((get_or locks place lock).frame / 512) actor old
     → let_go_in actor (map page_lock_of (drop (place + 1) locks)) new ≡ let_go_in actor (map page_lock_of (drop place locks)) old
 unfolding let_go_in
 let_go_next actor locks place lock old new within is =

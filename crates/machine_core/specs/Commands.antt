@@ -1,12 +1,11 @@
 -- What the machine's functions ask and show of a command of the firmware, against the model's phases (this project's own).
-use Rattle.std.specs.Prelude.{◌≡◌, ◌≢◌, ℕ, ◌/◌, ◌==◌, true, if◌then◌else◌, List, [], ◌∷◌, map, Option, Some, None, Result, Ok, Err}
+use Rattle.std.specs.Prelude.{◌≡◌, ◌≢◌, ℕ, ◌/◌, true, List, [], ◌∷◌, map, Option, Some, None, Result, Ok, Err}
 use Rattle.std.specs.List.{AllByRecursion}
 use Rattle.std.specs.Option.{option_or}
 use Rattle.snp_model.specs.declared.command.Command.{Command}
 use Rattle.snp_model.specs.declared.event.Deed.TheVariants as deeds
 use Rattle.snp_model.specs.declared.event.FwRefusal.{FwRefusal}
 use Rattle.snp_model.specs.declared.scenario.GuestSpec.{GuestSpec}
-use Rattle.snp_model.specs.Entries.{released}
 use Rattle.snp_model.specs.Firmware.{CommandPage}
 use Rattle.snp_model.specs.FirmwareLocks.{context_refusal, guest_refusal}
 use Rattle.snp_model.specs.FirmwareStep.{Phase, TakeContext, TakePage, Committing, lock_refusal, refused}
@@ -19,6 +18,7 @@ use Rattle.machine_core.specs.declared.command.Next.TheVariants as nexts
 use Rattle.machine_core.specs.declared.shown.Shown.{Shown}
 use Rattle.machine_core.specs.declared.taken_lock.Taken.TheVariants.{OfContext}
 use Rattle.machine_core.specs.declared.taken_lock.TakenLock.{TakenLock}
+use Rattle.machine_core.specs.CommandPages.{released_in}
 use Rattle.machine_core.specs.Bays.{Stock, context_holders_of, contexts_of, holders_of, pages_of}
 
 -- a page that a command names, as the model sees it
@@ -58,7 +58,7 @@ pub record HoldsContext (actor guest : ℕ) (stock : Stock) : Type 0 where
 -- the holders of locks once an actor has released those of the regions in which these locks lie
 unfoldable pub let_go_in : ℕ → List PageLock → (ℕ → Option ℕ) → ℕ → Option ℕ
 let_go_in actor [] holder = holder
-let_go_in actor (lock ∷ locks) holder = let_go_in actor locks (λ frame. if frame / 512 == lock.frame / 512 then released actor (holder frame) else holder frame)
+let_go_in actor (lock ∷ locks) holder = let_go_in actor locks (released_in (lock.frame / 512) actor holder)
 
 -- each lock covers frames of the region of the frame that it names
 abbrev pub AreInOneRegion : List PageLock → Type 0

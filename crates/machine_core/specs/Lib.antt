@@ -2,6 +2,7 @@ pub mod Actors
 pub mod Bays
 pub mod CommandPages
 pub mod Commands
+pub mod Commits
 pub mod Machine
 pub mod Moves
 pub mod OwnLaws

@@ -16,6 +16,7 @@ ghost use Rattle.machine_core.specs.Walks.{stands_of};
 
 use crate::actor::ActorState;
 use crate::adjust::{Adjustment, adjust_event};
+use crate::command_event::command_event;
 use crate::cpu::{Processor, Walker, cpu_access};
 use crate::host::host_access;
 use crate::parts::Parts;
@@ -29,13 +30,15 @@ use snp_model::{Event, GuestEnd, GuestSpec, Item, Role};
 
 /// Makes the next event of an unfinished actor, with its number from 1, in memory of so many frames: the step of the
 /// tables, over parts that have the regions that it touches. The locks of its number are those that its open attempt has
-/// taken. What it shows is written to a place that is there. Takes no memory.
+/// taken. `words` is a place for the words of one page, whatever it holds, and what it shows is written to a place that is
+/// there. Takes no memory.
 pub(crate) fn advance<P: Parts>(
     actor: &mut ActorState,
     number: u32,
     frames: u32,
     guests: &[GuestSpec],
     parts: &mut P,
+    words: &mut [u64; 512],
     shown: &mut Shown,
 ) -> Event
     requires ready { IsReady frames guests.now actor.old }
@@ -53,7 +56,7 @@ pub(crate) fn advance<P: Parts>(
     ensures context_locks { (locks_of (P.stock parts.new)).context_holder ≡ recontexted number actor.new.standing.context_lock (locks_of (P.stock parts.old)).context_holder }
     ensures kept { P.kept parts.old parts.new }
 {
-    next_event(parts, number, frames, guests, actor, shown);
+    next_event(parts, number, frames, guests, actor, words, shown);
     actor.take_down(shown)
 }
 
@@ -65,6 +68,7 @@ fn next_event<P: Parts>(
     frames: u32,
     guests: &[GuestSpec],
     actor: &ActorState,
+    words: &mut [u64; 512],
     shown: &mut Shown,
 )
     requires ready { IsReady frames guests.now actor.now }
@@ -107,7 +111,9 @@ fn next_event<P: Parts>(
             )
         }
         Role::Host => host_event(parts, number, frames, guests, actor, item, shown),
-        Role::Firmware => firmware_event(parts, frames, guests, actor, item, shown),
+        Role::Firmware => firmware_event(
+            parts, number, frames, guests, actor, item, words, shown,
+        ),
     }
 }
 
@@ -224,19 +230,29 @@ fn host_event<P: Parts>(
 }
 
 // The next event of a firmware actor.
-#[tactic(auto, unfolding(snp_model::specs::Step::item_move))]
+#[tactic(auto, using(crate::proofs::HeldLaws::none_relocked, crate::proofs::HeldLaws::none_recontexted), unfolding(snp_model::specs::Step::item_move, snp_model::specs::Touches::item_touches, snp_model::specs::HeldLocks::AreItemLocks, snp_model::specs::OpenAttempts::IsAttempt))]
 fn firmware_event<P: Parts>(
-    parts: &P,
+    parts: &mut P,
+    number: u32,
     frames: u32,
     guests: &[GuestSpec],
     actor: &ActorState,
     item: &Item,
+    words: &mut [u64; 512],
     shown: &mut Shown,
 )
     requires item { IsItemOf frames Firmware item.now }
-    ensures moves { item_move frames guests.now (view_on (P.stock parts.now) guests.now) actor.now Firmware item.now
-        ≡ move_by shown.new (view_on (P.stock parts.now) guests.now) actor.now.standing }
-    ensures unlocked { shown.new.lock ≡ None }
+    requires attempt { IsAttempt frames Firmware item.now actor.now.standing actor.now.deeds }
+    requires has { HasTouched (item_touches frames guests.now actor.now Firmware item.now) (P.stock parts.old) }
+    requires owns { OwnsLocks number actor.now (locks_of (P.stock parts.old)).holder }
+    requires owns_context { OwnsContext number actor.now (locks_of (P.stock parts.old)).context_holder }
+    requires tested { AreItemLocks frames guests.now (view_on (P.stock parts.old) guests.now).contents Firmware item.now actor.now.deeds actor.now.standing }
+    ensures moves { item_move frames guests.now (view_on (P.stock parts.old) guests.now) actor.now Firmware item.now
+        ≡ move_by shown.new (view_on (P.stock parts.new) guests.now) (standing_by shown.new actor.now.standing) }
+    ensures locks { (locks_of (P.stock parts.new)).holder ≡ relocked number (locks_by shown.new actor.now.standing) (locks_of (P.stock parts.old)).holder }
+    ensures context_locks { (locks_of (P.stock parts.new)).context_holder ≡ recontexted number (context_by shown.new actor.now.standing) (locks_of (P.stock parts.old)).context_holder }
+    ensures room { IsSome shown.new.lock → length actor.now.standing.locks < 3 }
+    ensures kept { P.kept parts.old parts.new }
 {
     match item {
         Item::Access { .. } => *shown = Shown::misplaced(),
@@ -244,7 +260,9 @@ fn firmware_event<P: Parts>(
         Item::Rmpadjust { .. } => *shown = Shown::misplaced(),
         Item::Rmpupdate(_) => *shown = Shown::misplaced(),
         Item::Psmash { .. } => *shown = Shown::misplaced(),
-        Item::Firmware(_) => *shown = Shown::unbuilt(),
+        Item::Firmware(command) => command_event(
+            parts, number, frames, guests, actor, command, words, shown,
+        ),
         Item::Skip { count, test } => *shown = skip(actor, *count, test),
     }
 }

@@ -28,6 +28,7 @@ mod bay;
 mod building;
 mod changes;
 mod command;
+mod command_event;
 mod cpu;
 mod event;
 mod firmware;

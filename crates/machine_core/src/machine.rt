@@ -27,6 +27,8 @@ pub struct Machine {
     actors: Vec<ActorState>,
     // What the last event showed: a place for the next.
     shown: Shown,
+    // A place for the words of one page, for an event that makes a page.
+    words: [u64; 512],
 }
 
 impl Model for Machine {
@@ -56,6 +58,7 @@ impl Machine {
             guests,
             actors,
             shown: Shown::faulted(),
+            words: [0; 512],
         })
     }
 
@@ -75,6 +78,7 @@ impl Machine {
             frames,
             self.guests.as_slice(),
             &mut self.parts,
+            &mut self.words,
             &mut self.shown,
         )
     }

@@ -1,5 +1,4 @@
-ghost use Rattle.std.specs.Prelude.{◌≡◌, ◌/◌, ◌==◌, if◌then◌else◌, List, [], map, None, IsSome};
-ghost use Rattle.snp_model.specs.Entries.{released};
+ghost use Rattle.std.specs.Prelude.{◌≡◌, List, [], map, None};
 ghost use Rattle.snp_model.specs.declared.scenario.GuestSpec.{GuestSpec};
 ghost use Rattle.snp_model.specs.KeptLocks.{OwnsContext, OwnsLocks, recontexted, relocked};
 ghost use Rattle.machine_core.specs.Actors.{page_lock_of};
@@ -9,6 +8,7 @@ ghost use Rattle.machine_core.specs.Commands.{AreInOneRegion, frames_touched, le
 use crate::actor::ActorState;
 use crate::held_context::release_context;
 use crate::parts::Parts;
+use crate::release::release;
 use crate::taken_lock::TakenLock;
 
 /// Releases all that the open attempt of an actor has locked: its pages, in up to three regions, and the context of a guest.
@@ -39,18 +39,6 @@ fn release_pages<P: Parts>(parts: &mut P, number: u32, locks: &[TakenLock])
     ensures kept { P.kept parts.old parts.new }
 {
     'locks: for lock in locks {
-        release_region(parts, number, lock.frame / 512);
+        release(parts, lock.frame / 512, number);
     }
-}
-
-// Releases the actor's locks of pages in a region.
-fn release_region<P: Parts>(parts: &mut P, number: u32, region: u32)
-    requires { IsSome ((P.stock parts.old).bays region) }
-    ensures pages { pages_of (P.stock parts.new).bays ≡ pages_of (P.stock parts.old).bays }
-    ensures contexts { (P.stock parts.new).contexts ≡ (P.stock parts.old).contexts }
-    ensures locks { holders_of (P.stock parts.new).bays ≡ (λ frame. if frame / 512 == region then released number (holders_of (P.stock parts.old).bays frame) else holders_of (P.stock parts.old).bays frame) }
-    ensures kept { P.kept parts.old parts.new }
-{
-    let bay = parts.bay_mut(region);
-    bay.rmp.unlock(number);
 }

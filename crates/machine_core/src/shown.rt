@@ -17,13 +17,6 @@ pub struct Shown {
 }
 
 impl Shown {
-    /// The event of an item that no scenario has yet.
-    pub fn unbuilt() -> Shown
-        ensures { result ≡ record { deed = Control; outcome = Some Next; lock = None } }
-    {
-        Shown::last(Deed::Control, Outcome::Next)
-    }
-
     /// The event of an item of another role's, which no scenario has.
     pub fn misplaced() -> Shown
         ensures { result ≡ record { deed = Control; outcome = Some Next; lock = None } }

@@ -6,18 +6,18 @@ use Rattle.machine_core.proofs.refusal.release_pages.Goals as goal
 no_lock : TakenLock
 no_lock = record { frame = 0; base = 0; count = 0 }
 
-pub release_region-requires : goal.release_region-requires
+pub release-requires-clause-has : goal.release-requires-clause-has
 unfolding no_lock
-release_region-requires g c = lock_frame_has c.args.locks.now c.locks.lock-index no_lock (g.P.Parts.stock c.locks.parts) c.locks-test.true c.locks.invariant.has
+release-requires-clause-has g c = lock_frame_has c.args.locks.now c.locks.lock-index no_lock (g.P.Parts.stock c.locks.parts) c.locks-test.true c.locks.invariant.has
 
 pub locks-preserved : goal.locks-preserved
 unfolding no_lock
 locks-preserved g c = record {
-  has = g.met.P.Parts.kept_has _ _ c.release_region.ensures.kept _ c.locks.invariant.has;
-  pages = c.release_region.ensures.pages ∙ c.locks.invariant.pages;
-  contexts = c.release_region.ensures.contexts ∙ c.locks.invariant.contexts;
-  locks = let_go_next c.args.number c.args.locks.now c.locks.lock-index no_lock _ _ c.locks-test.true c.release_region.ensures.locks ∙ c.locks.invariant.locks;
-  kept = g.met.P.Parts.kept_twice _ _ _ c.locks.invariant.kept c.release_region.ensures.kept;
+  has = g.met.P.Parts.kept_has _ _ c.release.ensures.kept _ c.locks.invariant.has;
+  pages = c.release.ensures.pages ∙ c.locks.invariant.pages;
+  contexts = c.release.ensures.contexts ∙ c.locks.invariant.contexts;
+  locks = let_go_next c.args.number c.args.locks.now c.locks.lock-index no_lock _ _ c.locks-test.true c.release.ensures.locks ∙ c.locks.invariant.locks;
+  kept = g.met.P.Parts.kept_twice _ _ _ c.locks.invariant.kept c.release.ensures.kept;
 }
 
 pub returns-clause-locks : goal.returns-clause-locks
