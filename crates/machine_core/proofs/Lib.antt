@@ -8,7 +8,9 @@ pub mod CommittedLaws
 pub mod CpuLaws
 pub mod DeclaredLaws
 pub mod FirmwareTouchLaws
+pub mod GuestCommitLaws
 pub mod HeldLaws
+pub mod LaunchedLaws
 pub mod MachineLaws
 pub mod NamedLaws
 pub mod NamedLockLaws
