@@ -82,19 +82,18 @@ one_ready frames guests actor guest frame command part stock few owns owns_conte
       holds_context = change.holds;
     }
 
-pub create_ready : (frames : ℕ) (guests : List GuestSpec) (actor guest frame : ℕ) (part : ActorPart) (stock : Stock) → frames < 2 ^ 32 → OwnsLocks actor part (holders_of stock.bays)
-    → OwnsContext actor part (context_holders_of stock.contexts) → IsReady frames guests (contents_of stock guests) (commands.GctxCreate guest frame) part.standing → part.standing.context_lock ≡ Some guest
-    → MayLaunch actor guest frame (commands.GctxCreate guest frame) stock
+pub create_ready : (frames : ℕ) (guests : List GuestSpec) (actor guest frame : ℕ) (command : Command) (part : ActorPart) (stock : Stock) → command ≡ commands.GctxCreate guest frame → frames < 2 ^ 32 → OwnsLocks actor part (holders_of stock.bays)
+    → OwnsContext actor part (context_holders_of stock.contexts) → IsReady frames guests (contents_of stock guests) command part.standing → part.standing.context_lock ≡ Some guest → MayLaunch actor guest frame command stock
 unfolding command_pages
-create_ready frames guests actor guest frame part stock few owns owns_context ready locked =
-    one_ready frames guests actor guest frame (commands.GctxCreate guest frame) part stock few owns owns_context ready locked refl refl
+create_ready frames guests actor guest frame command part stock is few owns owns_context ready locked =
+    one_ready frames guests actor guest frame command part stock few owns owns_context ready locked (ap command_pages is) (ap (λ (c : Command). takes_large c) is)
 
-pub update_ready : (frames : ℕ) (guests : List GuestSpec) (actor guest frame page_type : ℕ) (imi : Bool) (perms : List ℕ) (part : ActorPart) (stock : Stock) → frames < 2 ^ 32 → OwnsLocks actor part (holders_of stock.bays)
-    → OwnsContext actor part (context_holders_of stock.contexts) → IsReady frames guests (contents_of stock guests) (commands.LaunchUpdate guest frame page_type imi perms) part.standing → part.standing.context_lock ≡ Some guest
-    → MayLaunch actor guest frame (commands.LaunchUpdate guest frame page_type imi perms) stock
+pub update_ready : (frames : ℕ) (guests : List GuestSpec) (actor guest frame page_type : ℕ) (imi : Bool) (perms : List ℕ) (command : Command) (part : ActorPart) (stock : Stock) → command ≡ commands.LaunchUpdate guest frame page_type imi perms
+    → frames < 2 ^ 32 → OwnsLocks actor part (holders_of stock.bays) → OwnsContext actor part (context_holders_of stock.contexts) → IsReady frames guests (contents_of stock guests) command part.standing
+    → part.standing.context_lock ≡ Some guest → MayLaunch actor guest frame command stock
 unfolding command_pages
-update_ready frames guests actor guest frame page_type imi perms part stock few owns owns_context ready locked =
-    one_ready frames guests actor guest frame (commands.LaunchUpdate guest frame page_type imi perms) part stock few owns owns_context ready locked refl refl
+update_ready frames guests actor guest frame page_type imi perms command part stock is few owns owns_context ready locked =
+    one_ready frames guests actor guest frame command part stock few owns owns_context ready locked (ap command_pages is) (ap (λ (c : Command). takes_large c) is)
 
 -- The model's commits
 
@@ -123,39 +122,47 @@ launched_contexts guest command frame pages contexts = let page = pages frame in
 abbrev pub changed_contexts : ℕ → Command → List ℕ → Contexts → Contexts
 changed_contexts guest command words contexts = at_guest guest (context_after command 0 words (contexts guest)) contexts
 
-pub create_commits : (guests : List GuestSpec) (part : ActorPart) (guest frame : ℕ) (old new : Stock) (shown : Shown) → pages_of new.bays ≡ pages_committed (commands.GctxCreate guest frame) frame (pages_of old.bays)
-    → contexts_of new.contexts guests ≡ launched_contexts guest (commands.GctxCreate guest frame) frame (pages_of new.bays) (contexts_of old.contexts guests)
+pub create_commits : (guests : List GuestSpec) (part : ActorPart) (command : Command) (guest frame : ℕ) (old new : Stock) (shown : Shown) → command ≡ commands.GctxCreate guest frame → pages_of new.bays ≡ pages_committed command frame (pages_of old.bays)
+    → contexts_of new.contexts guests ≡ launched_contexts guest command frame (pages_of new.bays) (contexts_of old.contexts guests)
     → shown ≡ record { deed = page_shown frame (pages_of old.bays frame); outcome = Some (outcomes.Firmware 0); lock = None }
-    → commit_move (contents_of old guests) part (commands.GctxCreate guest frame) ≡ move_by shown (view_on new guests) (standing_by shown part.standing)
+    → commit_move (contents_of old guests) part command ≡ move_by shown (view_on new guests) (standing_by shown part.standing)
 unfolding pages_committed pages_after contexts_after context_committed context_after root_after guest_of command_pages commit_deed
-create_commits guests part guest frame old new shown pages_are contexts_are shown_is = shown_commits guests part (commands.GctxCreate guest frame) old new shown pages_are contexts_are shown_is
+create_commits guests part command guest frame old new shown is pages_are contexts_are shown_is =
+    let contexts = contexts_are ∙ ap (λ (c : Command). launched_contexts guest c frame (pages_of new.bays) (contexts_of old.contexts guests)) is in
+    ap (commit_move (contents_of old guests) part) is ∙ shown_commits guests part (commands.GctxCreate guest frame) old new shown (pages_are ∙ ap (λ (c : Command). pages_committed c frame (pages_of old.bays)) is) contexts shown_is
 
-pub update_commits : (guests : List GuestSpec) (part : ActorPart) (guest frame page_type : ℕ) (imi : Bool) (perms : List ℕ) (old new : Stock) (shown : Shown)
-    → pages_of new.bays ≡ pages_committed (commands.LaunchUpdate guest frame page_type imi perms) frame (pages_of old.bays)
-    → contexts_of new.contexts guests ≡ launched_contexts guest (commands.LaunchUpdate guest frame page_type imi perms) frame (pages_of new.bays) (contexts_of old.contexts guests)
+pub update_commits : (guests : List GuestSpec) (part : ActorPart) (command : Command) (guest frame page_type : ℕ) (imi : Bool) (perms : List ℕ) (old new : Stock) (shown : Shown) → command ≡ commands.LaunchUpdate guest frame page_type imi perms → pages_of new.bays ≡ pages_committed command frame (pages_of old.bays)
+    → contexts_of new.contexts guests ≡ launched_contexts guest command frame (pages_of new.bays) (contexts_of old.contexts guests)
     → shown ≡ record { deed = page_shown frame (pages_of old.bays frame); outcome = Some (outcomes.Firmware 0); lock = None }
-    → commit_move (contents_of old guests) part (commands.LaunchUpdate guest frame page_type imi perms) ≡ move_by shown (view_on new guests) (standing_by shown part.standing)
+    → commit_move (contents_of old guests) part command ≡ move_by shown (view_on new guests) (standing_by shown part.standing)
 unfolding pages_committed pages_after contexts_after context_committed context_after launched_into root_after guest_of command_pages commit_deed
-update_commits guests part guest frame page_type imi perms old new shown pages_are contexts_are shown_is =
-    shown_commits guests part (commands.LaunchUpdate guest frame page_type imi perms) old new shown pages_are contexts_are shown_is
+update_commits guests part command guest frame page_type imi perms old new shown is pages_are contexts_are shown_is =
+    let contexts = contexts_are ∙ ap (λ (c : Command). launched_contexts guest c frame (pages_of new.bays) (contexts_of old.contexts guests)) is in
+    ap (commit_move (contents_of old guests) part) is ∙ shown_commits guests part (commands.LaunchUpdate guest frame page_type imi perms) old new shown (pages_are ∙ ap (λ (c : Command). pages_committed c frame (pages_of old.bays)) is) contexts shown_is
 
-pub activate_commits : (guests : List GuestSpec) (part : ActorPart) (guest asid : ℕ) (words : List ℕ) (old new : Stock) (shown : Shown) → new.bays ≡ old.bays
-    → contexts_of new.contexts guests ≡ changed_contexts guest (commands.Activate guest asid) words (contexts_of old.contexts guests)
+pub activate_commits : (guests : List GuestSpec) (part : ActorPart) (command : Command) (guest asid : ℕ) (words : List ℕ) (old new : Stock) (shown : Shown) → command ≡ commands.Activate guest asid → new.bays ≡ old.bays
+    → contexts_of new.contexts guests ≡ changed_contexts guest command words (contexts_of old.contexts guests)
     → shown ≡ record { deed = deeds.CommitContext guest; outcome = Some (outcomes.Firmware 0); lock = None }
-    → commit_move (contents_of old guests) part (commands.Activate guest asid) ≡ move_by shown (view_on new guests) (standing_by shown part.standing)
+    → commit_move (contents_of old guests) part command ≡ move_by shown (view_on new guests) (standing_by shown part.standing)
 unfolding pages_after contexts_after context_committed context_after root_after guest_of commit_deed
-activate_commits guests part guest asid words old new shown bays_are contexts_are shown_is = shown_commits guests part (commands.Activate guest asid) old new shown (ap pages_of bays_are) contexts_are shown_is
+activate_commits guests part command guest asid words old new shown is bays_are contexts_are shown_is =
+    let contexts = contexts_are ∙ ap (λ (c : Command). changed_contexts guest c words (contexts_of old.contexts guests)) is in
+    ap (commit_move (contents_of old guests) part) is ∙ shown_commits guests part (commands.Activate guest asid) old new shown (ap pages_of bays_are) contexts shown_is
 
-pub start_commits : (guests : List GuestSpec) (part : ActorPart) (guest : ℕ) (words : List ℕ) (old new : Stock) (shown : Shown) → new.bays ≡ old.bays
-    → contexts_of new.contexts guests ≡ changed_contexts guest (commands.LaunchStart guest) words (contexts_of old.contexts guests)
+pub start_commits : (guests : List GuestSpec) (part : ActorPart) (command : Command) (guest : ℕ) (words : List ℕ) (old new : Stock) (shown : Shown) → command ≡ commands.LaunchStart guest → new.bays ≡ old.bays
+    → contexts_of new.contexts guests ≡ changed_contexts guest command words (contexts_of old.contexts guests)
     → shown ≡ record { deed = deeds.CommitContext guest; outcome = Some (outcomes.Firmware 0); lock = None }
-    → commit_move (contents_of old guests) part (commands.LaunchStart guest) ≡ move_by shown (view_on new guests) (standing_by shown part.standing)
+    → commit_move (contents_of old guests) part command ≡ move_by shown (view_on new guests) (standing_by shown part.standing)
 unfolding pages_after contexts_after context_committed context_after root_after guest_of commit_deed
-start_commits guests part guest words old new shown bays_are contexts_are shown_is = shown_commits guests part (commands.LaunchStart guest) old new shown (ap pages_of bays_are) contexts_are shown_is
+start_commits guests part command guest words old new shown is bays_are contexts_are shown_is =
+    let contexts = contexts_are ∙ ap (λ (c : Command). changed_contexts guest c words (contexts_of old.contexts guests)) is in
+    ap (commit_move (contents_of old guests) part) is ∙ shown_commits guests part (commands.LaunchStart guest) old new shown (ap pages_of bays_are) contexts shown_is
 
-pub finish_commits : (guests : List GuestSpec) (part : ActorPart) (guest : ℕ) (words : List ℕ) (old new : Stock) (shown : Shown) → new.bays ≡ old.bays
-    → contexts_of new.contexts guests ≡ changed_contexts guest (commands.LaunchFinish guest) words (contexts_of old.contexts guests)
+pub finish_commits : (guests : List GuestSpec) (part : ActorPart) (command : Command) (guest : ℕ) (words : List ℕ) (old new : Stock) (shown : Shown) → command ≡ commands.LaunchFinish guest → new.bays ≡ old.bays
+    → contexts_of new.contexts guests ≡ changed_contexts guest command words (contexts_of old.contexts guests)
     → shown ≡ record { deed = deeds.CommitContext guest; outcome = Some (outcomes.Firmware 0); lock = None }
-    → commit_move (contents_of old guests) part (commands.LaunchFinish guest) ≡ move_by shown (view_on new guests) (standing_by shown part.standing)
+    → commit_move (contents_of old guests) part command ≡ move_by shown (view_on new guests) (standing_by shown part.standing)
 unfolding pages_after contexts_after context_committed context_after root_after guest_of commit_deed
-finish_commits guests part guest words old new shown bays_are contexts_are shown_is = shown_commits guests part (commands.LaunchFinish guest) old new shown (ap pages_of bays_are) contexts_are shown_is
+finish_commits guests part command guest words old new shown is bays_are contexts_are shown_is =
+    let contexts = contexts_are ∙ ap (λ (c : Command). changed_contexts guest c words (contexts_of old.contexts guests)) is in
+    ap (commit_move (contents_of old guests) part) is ∙ shown_commits guests part (commands.LaunchFinish guest) old new shown (ap pages_of bays_are) contexts shown_is
