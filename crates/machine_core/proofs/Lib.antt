@@ -10,7 +10,9 @@ pub mod ContextsLaws
 pub mod CpuLaws
 pub mod DeclaredLaws
 pub mod FirmwareTouchLaws
+pub mod GuestCommitLaws
 pub mod HeldLaws
+pub mod LaunchedLaws
 pub mod MachineLaws
 pub mod NamedLaws
 pub mod NamedLockLaws

@@ -43,7 +43,7 @@ pub few_locks : (frames : ℕ) (guests : List GuestSpec) (contents : Contents) (
 few_locks frames guests contents command standing ready =
     no_more standing.locks (command_pages command) (λ number lock is none. let e = sym (ready.tested.pages number lock is).page_is ∙ none in cc)
 
-one_lock : (locks : List PageLock) (lock : PageLock) → length locks ≤ 1 → slice_get locks 0 ≡ Some lock → locks ≡ lock ∷ []
+pub one_lock : (locks : List PageLock) (lock : PageLock) → length locks ≤ 1 → slice_get locks 0 ≡ Some lock → locks ≡ lock ∷ []
 one_lock [] lock few first = absurd cc
 one_lock (found ∷ []) lock few first = ap (λ (l : PageLock). l ∷ []) (same_some found lock first)
 one_lock (found ∷ next ∷ others) lock few first = absurd (omega (arith, few))
@@ -55,12 +55,12 @@ two_locks (found ∷ next ∷ []) one other few first second = λ i. same_some f
 two_locks (found ∷ next ∷ third ∷ others) one other few first second = absurd (omega (arith, few))
 
 -- a page of 4 KB of a command that takes no larger one
-record IsReadyPage (frames : ℕ) (contents : Contents) (locks : List PageLock) (number frame : ℕ) : Type 0 where
-  inside : frame < frames
-  small : (contents.pages frame).facts.size ≡ Small
-  lock_is : slice_get locks number ≡ Some (page_lock Small frame)
+pub record IsReadyPage (frames : ℕ) (contents : Contents) (locks : List PageLock) (number frame : ℕ) : Type 0 where
+  pub inside : frame < frames
+  pub small : (contents.pages frame).facts.size ≡ Small
+  pub lock_is : slice_get locks number ≡ Some (page_lock Small frame)
 
-small_page : (frames : ℕ) (guests : List GuestSpec) (contents : Contents) (command : Command) (standing : Standing) (number : ℕ) (page : CommandPage) → IsReady frames guests contents command standing
+pub small_page : (frames : ℕ) (guests : List GuestSpec) (contents : Contents) (command : Command) (standing : Standing) (number : ℕ) (page : CommandPage) → IsReady frames guests contents command standing
     → slice_get (command_pages command) number ≡ Some page → takes_large command ≡ false → IsReadyPage frames contents standing.locks number page.frame
 small_page frames guests contents command standing number page ready is takes =
     let has = has_lock frames guests contents command standing number page ready.tested ready.all is in
