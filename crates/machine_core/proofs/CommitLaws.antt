@@ -20,7 +20,7 @@ use Rattle.machine_core.specs.Commits.{MayCommit}
 use Rattle.machine_core.specs.Commands.{HoldsContext, HoldsNoContext}
 use Rattle.machine_core.specs.Moves.{context_by, context_left, locks_by, locks_left, standing_by}
 use Rattle.machine_core.proofs.ContextsLaws.{context_unlocked}
-use Rattle.machine_core.proofs.HeldLaws.{holds_none}
+use Rattle.machine_core.proofs.GuestCommitLaws.{holds_context}
 use Rattle.machine_core.proofs.PhaseLaws.{frame_has}
 use Rattle.machine_core.proofs.RangeLaws.{relocked_none}
 use Rattle.machine_core.proofs.ReadyLaws.{few_locks}
@@ -82,18 +82,14 @@ pageless_relocked frames guests actor command part old new may none same =
     ap holders_of same
     ∙ sym (relocked_none actor (holders_of old.bays) (λ frame held. true≢false (sym (may.owns.only frame held) ∙ ap (λ (ls : List PageLock). locks_frame frame (record part { standing = record part.standing { locks = ls } })) locks)))
 
-own_guest : (guest other : ℕ) (locked : Option ℕ) → locked ≡ Some guest → is_locked other locked ≡ true → other ≡ guest
-own_guest guest other locked is held = let e : is_locked other (Some guest) ≡ true = sym (ap (is_locked other) is) ∙ held in grind (arith, nat_tests)
-
-is_own : (guest : ℕ) (locked : Option ℕ) → locked ≡ Some guest → is_locked guest locked ≡ true
-is_own guest locked is = ap (is_locked guest) is ∙ grind (arith, nat_tests)
-
--- one with the lock of a context holds that one, and no other
-pub holds_context : (actor guest : ℕ) (part : ActorPart) (stock other : Stock) → OwnsContext actor part (context_holders_of stock.contexts) → part.standing.context_lock ≡ Some guest → other.contexts ≡ stock.contexts → HoldsContext actor guest other
-holds_context actor guest part stock other owns locked same = record {
-  has = ap (λ (contexts : GuestContexts). context_holders_of contexts guest) same ∙ owns.has guest (is_own guest part.standing.context_lock locked);
-  only = λ g held. own_guest guest g part.standing.context_lock locked (owns.only g (ap (λ (contexts : GuestContexts). context_holders_of contexts g) (sym same) ∙ held));
-}
+-- one with the lock of a context holds it, and still does where contexts stay
+pub still_holds : (actor guest : ℕ) (part : ActorPart) (stock other : Stock) → OwnsContext actor part (context_holders_of stock.contexts) → part.standing.context_lock ≡ Some guest → other.contexts ≡ stock.contexts → HoldsContext actor guest other
+still_holds actor guest part stock other owns locked same =
+    let held = holds_context actor guest part stock owns locked in
+    record {
+      has = ap (λ (contexts : GuestContexts). context_holders_of contexts guest) same ∙ held.has;
+      only = λ g is. held.only g (ap (λ (contexts : GuestContexts). context_holders_of contexts g) (sym same) ∙ is);
+    }
 
 -- What it shows
 

@@ -10,6 +10,7 @@ pub mod ContextsLaws
 pub mod CpuLaws
 pub mod DeclaredLaws
 pub mod FirmwareTouchLaws
+pub mod GuestCommandLaws
 pub mod GuestCommitLaws
 pub mod HeldLaws
 pub mod LaunchedLaws
