@@ -21,7 +21,7 @@ use Rattle.snp_model.specs.Walking.{Processor, guest_words, nested_words_after, 
 use Rattle.snp_model.proofs.TestedLaws.{let_through}
 use Rattle.machine_core.specs.declared.shown.Shown.{Shown}
 use Rattle.machine_core.specs.Actors.{IsBegun}
-use Rattle.machine_core.specs.Bays.{Stock, contents_of, pages_of, view_on}
+use Rattle.machine_core.specs.Bays.{Stock, pages_of, view_on}
 use Rattle.machine_core.specs.Moves.{lock_shown, move_by, standing_by}
 use Rattle.machine_core.specs.Ranges.{IsLockOfPage, page_refused}
 use Rattle.machine_core.specs.Walks.{arrived_at}

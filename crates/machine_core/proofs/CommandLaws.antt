@@ -1,13 +1,11 @@
 -- What a command that neither seals nor opens a page asks for, and the numbers of its guest.
-use Rattle.std.proofs.Common.{◌≡◌, ℕ, ◌<◌, Option, Some, None, List, refl, sym, ap, ◌∙◌, arith}
+use Rattle.std.proofs.Common.{◌≡◌, ℕ, ◌<◌, Option, Some, None, refl, sym, ◌∙◌, arith}
 use Rattle.snp_model.specs.declared.command.Command.{Command}
 use Rattle.snp_model.specs.declared.command.Command.TheVariants as commands
-use Rattle.snp_model.specs.declared.firmware.Part.{Part}
-use Rattle.snp_model.specs.declared.firmware.Part.TheVariants.{Source, Target, Metadata}
 use Rattle.snp_model.specs.Bounds.{IsFirmwareCommand}
 use Rattle.snp_model.specs.Firmware.{CommandPage, guest_of}
-use Rattle.snp_model.specs.FirmwareStep.{Phase, Committing, pages_phase}
-use Rattle.snp_model.specs.Sealing.{Sealing, sealing_of}
+use Rattle.snp_model.specs.FirmwareStep.{Committing, pages_phase}
+use Rattle.snp_model.specs.Sealing.{sealing_of}
 use Rattle.snp_model.specs.State.{Computed}
 
 -- it seals and opens nothing

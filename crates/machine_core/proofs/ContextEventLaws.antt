@@ -1,16 +1,15 @@
 -- What the event that locks the context of a command's guest shows and leaves.
-use Rattle.std.proofs.Common.{◌≡◌, ℕ, ◌<◌, List, [], length, Option, Some, None, IsSome, refl, sym, ap, ◌∙◌, arith}
+use Rattle.std.proofs.Common.{◌≡◌, ℕ, ◌<◌, List, [], length, Option, Some, None, refl, sym, ap, ◌∙◌, arith}
 use Rattle.snp_model.specs.declared.command.Command.{Command}
 use Rattle.snp_model.specs.declared.event.FwRefusal.{FwRefusal}
 use Rattle.snp_model.specs.declared.scenario.GuestSpec.{GuestSpec}
 use Rattle.snp_model.specs.FirmwareStep.{context_taken, take_context}
 use Rattle.snp_model.specs.KeptLocks.{OwnsLocks, recontexted, relocked}
-use Rattle.snp_model.specs.Moves.{quiet_move}
 use Rattle.snp_model.specs.State.{ActorPart, PageLock, Standing, nothing_taken}
 use Rattle.machine_core.specs.declared.shown.Shown.{Shown}
 use Rattle.machine_core.specs.Bays.{Stock, contents_of, context_holders_of, contexts_of, holders_of, pages_of, view_on}
 use Rattle.machine_core.specs.Commands.{context_refused, context_shown}
-use Rattle.machine_core.specs.Moves.{context_by, locks_by, locks_left, move_by, standing_by, with_taken}
+use Rattle.machine_core.specs.Moves.{context_by, locks_by, move_by, standing_by}
 use Rattle.machine_core.proofs.HeldLaws.{holds_none}
 use Rattle.machine_core.proofs.NamedLockLaws.{quiet_contents}
 use Rattle.machine_core.proofs.RangeLaws.{relocked_none}

@@ -1,5 +1,5 @@
 -- What an event of a command touches is there: its frames are in memory, and its guest is a declared one.
-use Rattle.std.proofs.Common.{◌≡◌, ℕ, suc, zero, ◌+◌, ◌*◌, ◌/◌, ◌<◌, ◌≤◌, Bool, true, false, ◌||◌, cond, eqb, nat_lt, List, [], ◌∷◌, ◌++◌, length, Option, Some, None, is_some, slice_get, refl, sym, ap, ◌∙◌, subst, ◌⊎◌, inl, inr, ⊎_elim, arith}
+use Rattle.std.proofs.Common.{◌≡◌, ℕ, suc, ◌*◌, ◌/◌, ◌<◌, Bool, true, false, ◌||◌, cond, eqb, nat_lt, List, [], ◌∷◌, ◌++◌, length, Option, Some, None, is_some, slice_get, refl, sym, ap, ◌∙◌, subst, ◌⊎◌, inl, inr, ⊎_elim, arith}
 use Rattle.std.proofs.lemmas.Bool.{true≢false}
 use Rattle.std.proofs.lemmas.Bool.Decides.{nat_tests}
 use Rattle.std.proofs.lemmas.List.Folds.{list_any-append}
@@ -12,12 +12,12 @@ use Rattle.snp_model.specs.declared.event.FwRefusal.TheVariants as refusals
 use Rattle.snp_model.specs.declared.scenario.GuestSpec.{GuestSpec}
 use Rattle.snp_model.specs.Firmware.{CommandPage, guest_of, invalid_address, invalid_param, pages_of}
 use Rattle.snp_model.specs.FirmwareLocks.{context_refusal, frame_refusal, guest_refusal}
-use Rattle.snp_model.specs.FirmwareStep.{Phase, TakeContext, TakePage, Computing, Committing, command_asid, context_phase, lock_refusal, pages_phase, phase_of}
-use Rattle.snp_model.specs.HeldLocks.{AreCommandLocks, IsCommandLock}
+use Rattle.snp_model.specs.FirmwareStep.{command_asid, context_phase, lock_refusal, pages_phase, phase_of}
+use Rattle.snp_model.specs.HeldLocks.{AreCommandLocks}
 use Rattle.snp_model.specs.Locks.{page_lock}
 use Rattle.snp_model.specs.Sealing.{Sealing, sealing_of}
 use Rattle.snp_model.specs.State.{Computed, Contents, PageLock, Standing}
-use Rattle.snp_model.specs.Touches.{Touched, command_touches, context_touched, lock_regions, locks_regions, nothing_touched, page_touches, pages_regions, phase_touches, region_of, touches_frame, with_locks}
+use Rattle.snp_model.specs.Touches.{Touched, command_touches, context_touched, lock_regions, locks_regions, nothing_touched, page_touches, pages_regions, phase_touches, region_of, touches_frame}
 use Rattle.snp_model.proofs.CommandTests.{IsDeclared, has_lock, same_some}
 use Rattle.snp_model.proofs.LockLaws.{first_none}
 use Rattle.snp_model.proofs.TestedLaws.{let_through}

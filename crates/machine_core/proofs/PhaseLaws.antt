@@ -1,12 +1,12 @@
 -- What the phases of a command say: what it has taken, and what its next event touches.
-use Rattle.std.proofs.Common.{◌≡◌, ℕ, zero, suc, ◌/◌, Bool, true, false, ◌||◌, eqb, List, [], ◌∷◌, length, Option, Some, None, IsSome, slice_get, refl, sym, ap, ◌∙◌, subst, is_some, cond, ⊎_elim, arith}
+use Rattle.std.proofs.Common.{◌≡◌, ℕ, zero, suc, Bool, true, false, ◌||◌, eqb, List, [], ◌∷◌, length, Option, Some, None, IsSome, slice_get, refl, sym, ap, ◌∙◌, subst, is_some, cond, ⊎_elim, arith}
 use Rattle.std.proofs.lemmas.Bool.Decides.{nat_tests}
 use Rattle.std.specs.List.{list_any}
 use Rattle.snp_model.specs.declared.command.Command.{Command}
 use Rattle.snp_model.specs.declared.scenario.GuestSpec.{GuestSpec}
 use Rattle.snp_model.specs.Firmware.{CommandPage, guest_of, pages_of as command_pages}
 use Rattle.snp_model.specs.FirmwareLocks.{guest_refusal}
-use Rattle.snp_model.specs.FirmwareStep.{Phase, TakeContext, TakePage, Computing, Committing, context_phase, pages_phase, phase_of}
+use Rattle.snp_model.specs.FirmwareStep.{Phase, TakeContext, TakePage, Committing, context_phase, pages_phase, phase_of}
 use Rattle.snp_model.specs.HeldLocks.{AreCommandLocks}
 use Rattle.snp_model.specs.OpenAttempts.{IsCommand}
 use Rattle.snp_model.specs.Sealing.{Sealing, sealing_of}

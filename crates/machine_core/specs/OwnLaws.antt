@@ -1,5 +1,5 @@
 -- The laws of parts that own their bays and contexts (this project's own).
-use Rattle.std.specs.Prelude.{◌≡◌, ℕ, ◌-◌, ◌≤◌, length, slice_get, Option, None, IsSome, is_some}
+use Rattle.std.specs.Prelude.{◌≡◌, ℕ, ◌-◌, ◌≤◌, length, slice_get, None, IsSome, is_some}
 use Rattle.std.proofs.Common.{zero, suc, ◌<◌, List, [], ◌∷◌, set, refl, sym, ap, ◌∙◌, ⊎_elim, arith}
 use Rattle.std.proofs.lemmas.Bool.{cases_lt, true≢false}
 use Rattle.std.specs.Vec.{with_item}

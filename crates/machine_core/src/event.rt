@@ -111,9 +111,7 @@ fn next_event<P: Parts>(
             )
         }
         Role::Host => host_event(parts, number, frames, guests, actor, item, shown),
-        Role::Firmware => firmware_event(
-            parts, number, frames, guests, actor, item, words, shown,
-        ),
+        Role::Firmware => firmware_event(parts, number, frames, guests, actor, item, words, shown),
     }
 }
 

@@ -1,5 +1,4 @@
-use Rattle.std.proofs.Common.{◌≡◌, ℕ, None, IsSome, refl, sym, ap, ◌∙◌, subst}
-use Rattle.snp_model.specs.declared.command.Command.{Command}
+use Rattle.std.proofs.Common.{None, IsSome, refl, sym, ap, ◌∙◌, subst}
 use Rattle.snp_model.specs.declared.command.Command.TheVariants as commands
 use Rattle.snp_model.specs.Firmware.{guest_of}
 use Rattle.snp_model.specs.FirmwareStep.{commit_move}

@@ -6,9 +6,9 @@ use Rattle.machine_core.proofs.refusal.release_pages.Goals as goal
 no_lock : TakenLock
 no_lock = record { frame = 0; base = 0; count = 0 }
 
-pub release-requires-clause-has : goal.release-requires-clause-has
+pub release-requires : goal.release-requires
 unfolding no_lock
-release-requires-clause-has g c = lock_frame_has c.args.locks.now c.locks.lock-index no_lock (g.P.Parts.stock c.locks.parts) c.locks-test.true c.locks.invariant.has
+release-requires g c = record { has = lock_frame_has c.args.locks.now c.locks.lock-index no_lock (g.P.Parts.stock c.locks.parts) c.locks-test.true c.locks.invariant.has }
 
 pub locks-preserved : goal.locks-preserved
 unfolding no_lock
