@@ -6,8 +6,9 @@
 //!   `shown`: what an event shows.
 //! - `cpu`, `validate`, `adjust`, `host`, `update`, `smash`, `skip`: the items; `walking`: what the walks of a guest's
 //!   processor need next; `page`: what PVALIDATE and RMPADJUST share.
-//! - `page_move`, `reclaim`, `metadata`: the commits of page_move, page_reclaim and md_init; `release`: the release of an actor's
-//!   locks in one region.
+//! - `command`: what a command of the firmware needs next; `command_event`: its next event; `held_context`: the lock and the
+//!   commit of a guest's context; `firmware`: the lock of a page that it names; `launch`, `page_move`, `reclaim`, `metadata`:
+//!   its commits; `refusal`: the release of all that it has locked; `release`: that of an actor's locks in one region.
 //! - `parts`: what is lent to an event; `bay`: one region of it; `reads`, `changes`: what an event reads of a region, and
 //!   what it reads and writes of one at once.
 //!
@@ -17,7 +18,9 @@
 //! processor goes on in its walks by `walk`, which asks `walk_need` what they need, until they have come to a page. A word
 //! of a table is read by `reads`, and the access itself is made by `changes`, which take the region's `Bay` from the
 //! parts: the check and the access are one call of `access_step` on it. RMPUPDATE, PSMASH, PVALIDATE and RMPADJUST are two
-//! events, the lock and the commit, each one call of `rmp_update`, `rmp_validate` or `rmp_adjust` on the region's `Bay`.
+//! events, the lock and the commit, each one call of `rmp_update`, `rmp_validate` or `rmp_adjust` on the region's `Bay`. A
+//! command of the firmware goes to `command_event`: the lock of its guest's context, one event for the lock of each page, and
+//! its commit, which is a call of `fw_launch`, `fw_move` or `fw_reclaim`.
 //! What an event shows is written to a `Shown` of the machine's, since large values are slow to hand upward, and
 //! `ActorState::take_down` turns it into the event and the actor's next state.
 #![tactic(auto)]
