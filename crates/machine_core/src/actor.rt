@@ -1,7 +1,8 @@
-ghost use Rattle.std.specs.Prelude.{◌≡◌, ◌++◌, ◌∷◌, [], ◌+◌, ◌<◌, ◌≤◌, ◌^◌, ◌==◌, nat_le, nat_lt, length, map, None, IfOk, IsNone, IsSome};
+ghost use Rattle.std.specs.Prelude.{◌≡◌, ◌++◌, ◌∷◌, [], ◌+◌, ◌<◌, ◌≤◌, ◌^◌, ◌==◌, nat_le, nat_lt, length, map, None, Some, IfOk, IsNone, IsSome};
 ghost use Rattle.snp_model.specs.Opening.{opening_part};
 ghost use Rattle.snp_model.specs.Step.{line_at, passed_over, tries_again, last_after, part_after};
 ghost use Rattle.snp_model.specs.declared.event.Event.{Event};
+ghost use Rattle.snp_model.specs.Moves.{Move};
 ghost use Rattle.snp_model.specs.State.{View};
 ghost use Rattle.snp_model.specs.Walking.{guest_words, nested_words};
 ghost use Rattle.snp_model.specs.Bounds.{IsGuestInside};
@@ -194,7 +195,7 @@ impl ActorState {
     }
 
     /// Takes down what an event shows, and gives the event: a lock that was taken is kept until the attempt ends.
-    #[tactic(auto, unfolding(snp_model::specs::Step::part_after, snp_model::specs::Step::position_after))]
+    #[tactic(auto, unfolding(snp_model::specs::Step::part_after))]
     pub fn take_down(&mut self, shown: &Shown) -> Event
         requires role { IsPagingRole self.old.role }
         requires unfinished { self.old.item < length self.old.script }
@@ -205,40 +206,42 @@ impl ActorState {
         ensures locks { self.new.standing.locks ≡ locks_by shown.now self.old.standing }
         ensures context { self.new.standing.context_lock ≡ context_by shown.now self.old.standing }
     {
-        let item = self.item as u32;
-        let attempt = self.attempt;
-        match shown.outcome {
+        let event = Event {
+            item: self.item as u32,
+            attempt: self.attempt,
+            deed: shown.deed,
+            outcome: shown.outcome,
+        };
+        match &shown.outcome {
             None => {
                 self.keep(shown.deed);
                 self.take(shown.lock);
-                Event {
-                    item,
-                    attempt,
-                    deed: shown.deed,
-                    outcome: None,
-                }
             }
-            Some(outcome) => {
-                let line = self.line();
-                if tries_again(&line, self.attempt, &outcome) {
-                    self.attempt += 1;
-                } else {
-                    self.item += 1 + passed_over(&outcome) as usize;
-                    self.attempt = 0;
-                }
-                self.deeds.clear();
-                self.words.clear();
-                self.locks.clear();
-                self.context_lock = None;
-                self.last = last_after(self.last, outcome);
-                Event {
-                    item,
-                    attempt,
-                    deed: shown.deed,
-                    outcome: Some(outcome),
-                }
-            }
+            Some(outcome) => self.end(outcome),
         }
+        event
+    }
+
+    // The end of the open attempt by an outcome: its item is passed or tried again, and what it had taken is let go.
+    #[tactic(auto, unfolding(snp_model::specs::Step::part_after, snp_model::specs::Step::position_after))]
+    fn end(&mut self, outcome: &Outcome)
+        requires unfinished { self.old.item < length self.old.script }
+        ensures part { (move : Move) → self.new ≡ part_after self.old move (Some outcome.now) }
+        ensures locks { self.new.standing.locks ≡ [] }
+        ensures context { self.new.standing.context_lock ≡ None }
+    {
+        let line = self.line();
+        if tries_again(&line, self.attempt, outcome) {
+            self.attempt += 1;
+        } else {
+            self.item += 1 + passed_over(outcome) as usize;
+            self.attempt = 0;
+        }
+        self.deeds.clear();
+        self.words.clear();
+        self.locks.clear();
+        self.context_lock = None;
+        self.last = last_after(self.last, *outcome);
     }
 }
 

@@ -1,6 +1,18 @@
-use Rattle.std.proofs.Common.{rules}
-use Rattle.machine_core.proofs.ActorLaws.{actor_anew}
+use Rattle.std.proofs.Common.{Option, ap, sym, ◌∙◌}
+use Rattle.snp_model.specs.declared.event.Outcome.{Outcome}
+use Rattle.snp_model.specs.Step.{part_after}
+use Rattle.machine_core.specs.Moves.{context_left, locks_left, move_by, standing_by}
 use Rattle.machine_core.proofs.actor.ActorState.take_down.Goals as goal
 
-pub invariant_of-self : goal.invariant_of-self
-invariant_of-self c = actor_anew _ _ _ _ _ _ _ (search rules) (search rules) c.clear.ensures c.clear-in-Some.ensures.guest c.clear-in-Some.ensures.nested
+pub returns-in-Some-clause-part : goal.returns-in-Some-clause-part
+returns-in-Some-clause-part c = λ after.
+    let move = move_by c.args.shown.now after (standing_by c.args.shown.now c.args.self.now.standing) in
+    c.end.ensures.part move ∙ ap (part_after c.args.self.now move) (sym c.in-Some.is)
+
+pub returns-in-Some-clause-locks : goal.returns-in-Some-clause-locks
+returns-in-Some-clause-locks c =
+    c.end.ensures.locks ∙ ap (λ (o : Option Outcome). locks_left o (standing_by c.args.shown.now c.args.self.now.standing).locks) (sym c.in-Some.is)
+
+pub returns-in-Some-clause-context : goal.returns-in-Some-clause-context
+returns-in-Some-clause-context c =
+    c.end.ensures.context ∙ ap (λ (o : Option Outcome). context_left o (standing_by c.args.shown.now c.args.self.now.standing).context_lock) (sym c.in-Some.is)
