@@ -184,9 +184,9 @@ fn cpu_event<P: Parts>(
                 parts, number, frames, guests, actor, cpu, &ask, stands, shown,
             )
         }
-        Item::Rmpupdate(_) => *shown = Shown::misplaced(),
-        Item::Psmash { .. } => *shown = Shown::misplaced(),
-        Item::Firmware(_) => *shown = Shown::misplaced(),
+        Item::Rmpupdate(_) | Item::Psmash { .. } | Item::Firmware(_) => {
+            *shown = Shown::misplaced()
+        }
         Item::Skip { count, test } => *shown = skip(actor, *count, test),
     }
 }
@@ -216,8 +216,7 @@ fn host_event<P: Parts>(
 {
     match item {
         Item::Access { address, op } => host_access(parts, frames, *address, op, shown),
-        Item::Pvalidate { .. } => *shown = Shown::misplaced(),
-        Item::Rmpadjust { .. } => *shown = Shown::misplaced(),
+        Item::Pvalidate { .. } | Item::Rmpadjust { .. } => *shown = Shown::misplaced(),
         Item::Rmpupdate(update) => {
             update_event(parts, number, frames, guests, actor, update, shown)
         }
@@ -253,11 +252,11 @@ fn firmware_event<P: Parts>(
     ensures kept { P.kept parts.old parts.new }
 {
     match item {
-        Item::Access { .. } => *shown = Shown::misplaced(),
-        Item::Pvalidate { .. } => *shown = Shown::misplaced(),
-        Item::Rmpadjust { .. } => *shown = Shown::misplaced(),
-        Item::Rmpupdate(_) => *shown = Shown::misplaced(),
-        Item::Psmash { .. } => *shown = Shown::misplaced(),
+        Item::Access { .. }
+        | Item::Pvalidate { .. }
+        | Item::Rmpadjust { .. }
+        | Item::Rmpupdate(_)
+        | Item::Psmash { .. } => *shown = Shown::misplaced(),
         Item::Firmware(command) => command_event(
             parts, number, frames, guests, actor, command, words, shown,
         ),
