@@ -58,6 +58,7 @@ pub mod PageBytesLaws
 pub mod PageStateLaws
 pub mod PageUseLaws
 pub mod PairLaws
+pub mod PastSteps
 pub mod RangeLaws
 pub mod ReadingLaws
 pub mod ReadyLaws
