@@ -18,46 +18,46 @@ use Rattle.snp_model.specs.declared.item.Update.{Update}
 use Rattle.snp_model.specs.declared.scenario.Paging.{Paging}
 use Rattle.snp_model.specs.declared.scenario.Role.{Role}
 use Rattle.snp_model.specs.declared.scenario.Role.TheVariants.{Cpu, Host, Firmware}
-use Rattle.snp_model.specs.Bounds.{IsCpuItem, IsFirmwareCommand, IsGuestNumber, IsSkip, IsUpdate, IsItemOf, IsLineOf}
+use Rattle.snp_model.specs.Bounds.{AreOperationWords, IsCpuItem, IsFirmwareCommand, IsGuestNumber, IsSkip, IsUpdate, IsItemOf, IsLineOf}
 use Rattle.snp_model.specs.ItemLines.{once, address_word, load_row, store_row, swap_row, cas_row, xor_row, skip_test, skip_row, skip_value_row, skip_item, access_item, size_word, flag_word, is_retry_row, retries_word, update_operands, update_row, smash_row, validate_row, adjust_operands, adjust_row, cpu_item, host_item, guest_word, create_operands, activate_operands, start_operands, launch_operands, finish_operands, init_operands, move_operands, reclaim_operands, command_row, firmware_item, item_words}
 use Rattle.snp_model.specs.Lines.{◌>>=◌, ◌>>◌, below, fixed, is_row, multiple, number, ranged, word}
-use Rattle.snp_model.proofs.LineLaws.{below_multiple_ok, below_ok, bind_ok, multiple_ok, ranged_ok, select, then_ok}
+use Rattle.snp_model.proofs.LineLaws.{below_multiple_ok, below_ok, bind_ok, multiple_ok, number_ok, ranged_ok, select, then_ok}
 
 err_not_ok : (reason : Reason) (line : Line) → Err reason ≡ Ok line → ⊥
 err_not_ok reason line h = cc
 
 -- an address is one that the actor's role may have, whatever the operation
-address_ok : (frames : ℕ) (role : Role) (w : List ℕ) (a : ℕ) → address_word role frames w ≡ Ok a → (op : Op) → IsItemOf frames role (Access a op)
+address_ok : (frames : ℕ) (role : Role) (w : List ℕ) (a : ℕ) → address_word role frames w ≡ Ok a → (op : Op) → AreOperationWords op → IsItemOf frames role (Access a op)
 unfolding address_word
-address_ok frames (Cpu guest vmpl npt paging) w a h op =
+address_ok frames (Cpu guest vmpl npt paging) w a h op words =
     let place = bind_ok (number w) (multiple 8) a h in
     let aligned = multiple_ok 8 place.0 a place.2 in
-    ap (λ (n : ℕ). n % 8) aligned.0 ∙ aligned.1
-address_ok frames Host w a h op = below_multiple_ok (4096 * frames) 8 w a h
-address_ok frames Firmware w a h op = absurd (cc)
+    (ap (λ (n : ℕ). n % 8) aligned.0 ∙ aligned.1, words)
+address_ok frames Host w a h op words = let both = below_multiple_ok (4096 * frames) 8 w a h in (both.0, both.1, words)
+address_ok frames Firmware w a h op words = absurd (cc)
 
-access_ok : (frames : ℕ) (role : Role) (w : List ℕ) (a : ℕ) (op : Op) (line : Line) → address_word role frames w ≡ Ok a → once (Access a op) ≡ line → IsLineOf frames role line
-access_ok frames role w a op line h same = subst (IsLineOf frames role) same (record { item = address_ok frames role w a h op; retries = omega arith })
+access_ok : (frames : ℕ) (role : Role) (w : List ℕ) (a : ℕ) (op : Op) (line : Line) → address_word role frames w ≡ Ok a → AreOperationWords op → once (Access a op) ≡ line → IsLineOf frames role line
+access_ok frames role w a op line h words same = subst (IsLineOf frames role) same (record { item = address_ok frames role w a h op words; retries = omega arith })
 
 load_ok : (frames : ℕ) (role : Role) (ws : List (List ℕ)) (line : Line) → load_row role frames ws ≡ Ok line → IsLineOf frames role line
 unfolding load_row
 load_ok frames role ws line h =
     let address = bind_ok (address_word role frames (word ws 1)) (λ (a : ℕ). Ok (once (Access a Load))) line h in
-    access_ok frames role (word ws 1) address.0 Load line address.1 (let e = address.2 in cc)
+    access_ok frames role (word ws 1) address.0 Load line address.1 tt (let e = address.2 in cc)
 
 store_ok : (frames : ℕ) (role : Role) (ws : List (List ℕ)) (line : Line) → store_row role frames ws ≡ Ok line → IsLineOf frames role line
 unfolding store_row
 store_ok frames role ws line h =
     let address = bind_ok (address_word role frames (word ws 1)) (λ (a : ℕ). number (word ws 2) >>= (λ (v : ℕ). Ok (once (Access a (Store v))))) line h in
     let value = bind_ok (number (word ws 2)) (λ (v : ℕ). Ok (once (Access address.0 (Store v)))) line address.2 in
-    access_ok frames role (word ws 1) address.0 (Store value.0) line address.1 (let e = value.2 in cc)
+    access_ok frames role (word ws 1) address.0 (Store value.0) line address.1 (number_ok (word ws 2) value.0 value.1) (let e = value.2 in cc)
 
 swap_ok : (frames : ℕ) (role : Role) (ws : List (List ℕ)) (line : Line) → swap_row role frames ws ≡ Ok line → IsLineOf frames role line
 unfolding swap_row
 swap_ok frames role ws line h =
     let address = bind_ok (address_word role frames (word ws 1)) (λ (a : ℕ). number (word ws 2) >>= (λ (v : ℕ). Ok (once (Access a (Swap v))))) line h in
     let value = bind_ok (number (word ws 2)) (λ (v : ℕ). Ok (once (Access address.0 (Swap v)))) line address.2 in
-    access_ok frames role (word ws 1) address.0 (Swap value.0) line address.1 (let e = value.2 in cc)
+    access_ok frames role (word ws 1) address.0 (Swap value.0) line address.1 (number_ok (word ws 2) value.0 value.1) (let e = value.2 in cc)
 
 cas_ok : (frames : ℕ) (role : Role) (ws : List (List ℕ)) (line : Line) → cas_row role frames ws ≡ Ok line → IsLineOf frames role line
 unfolding cas_row
@@ -65,14 +65,14 @@ cas_ok frames role ws line h =
     let address = bind_ok (address_word role frames (word ws 1)) (λ (a : ℕ). number (word ws 2) >>= (λ (old : ℕ). number (word ws 3) >>= (λ (new : ℕ). Ok (once (Access a (Compare old new)))))) line h in
     let expected = bind_ok (number (word ws 2)) (λ (old : ℕ). number (word ws 3) >>= (λ (new : ℕ). Ok (once (Access address.0 (Compare old new))))) line address.2 in
     let next = bind_ok (number (word ws 3)) (λ (new : ℕ). Ok (once (Access address.0 (Compare expected.0 new)))) line expected.2 in
-    access_ok frames role (word ws 1) address.0 (Compare expected.0 next.0) line address.1 (let e = next.2 in cc)
+    access_ok frames role (word ws 1) address.0 (Compare expected.0 next.0) line address.1 (number_ok (word ws 2) expected.0 expected.1, number_ok (word ws 3) next.0 next.1) (let e = next.2 in cc)
 
 xor_ok : (frames : ℕ) (role : Role) (ws : List (List ℕ)) (line : Line) → xor_row role frames ws ≡ Ok line → IsLineOf frames role line
 unfolding xor_row
 xor_ok frames role ws line h =
     let address = bind_ok (address_word role frames (word ws 1)) (λ (a : ℕ). number (word ws 2) >>= (λ (v : ℕ). Ok (once (Access a (Xor v))))) line h in
     let value = bind_ok (number (word ws 2)) (λ (v : ℕ). Ok (once (Access address.0 (Xor v)))) line address.2 in
-    access_ok frames role (word ws 1) address.0 (Xor value.0) line address.1 (let e = value.2 in cc)
+    access_ok frames role (word ws 1) address.0 (Xor value.0) line address.1 (number_ok (word ws 2) value.0 value.1) (let e = value.2 in cc)
 
 -- every role may have a skip
 skip_of : (frames : ℕ) (role : Role) (count : ℕ) (test : SkipTest) → IsSkip count → IsItemOf frames role (Skip count test)

@@ -108,7 +108,7 @@ role_more frames frames' guests guests' more_frames more_guests Firmware is = is
 
 item_more : (frames frames' : ℕ) → frames ≤ frames' → (role : Role) (item : Item) → IsItemOf frames role item → IsItemOf frames' role item
 item_more frames frames' more (Cpu guest vmpl npt paging) item is = is
-item_more frames frames' more Host (items.Access address op) is = let h = is.0 in (omega arith, is.1)
+item_more frames frames' more Host (items.Access address op) is = let h = is.0 in (omega arith, is.1, is.2)
 item_more frames frames' more Host (items.Pvalidate address size validate) is = absurd is
 item_more frames frames' more Host (items.Rmpadjust address size target mask vmsa) is = absurd is
 item_more frames frames' more Host (items.Rmpupdate update) is = is

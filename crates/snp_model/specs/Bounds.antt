@@ -6,6 +6,8 @@ use Rattle.snp_model.specs.declared.command.Command.TheVariants as commands
 use Rattle.snp_model.specs.declared.item.Item.{Item}
 use Rattle.snp_model.specs.declared.item.Item.TheVariants as items
 use Rattle.snp_model.specs.declared.item.Line.{Line}
+use Rattle.snp_model.specs.declared.item.Op.{Op}
+use Rattle.snp_model.specs.declared.item.Op.TheVariants.{Load, Store, Swap, Compare, Xor}
 use Rattle.snp_model.specs.declared.item.Update.{Update}
 use Rattle.snp_model.specs.declared.scenario.Paging.{Paging}
 use Rattle.snp_model.specs.declared.scenario.Paging.TheVariants.{Flat, Four, Five}
@@ -42,9 +44,17 @@ IsRole frames guests Firmware = Unit {0}
 abbrev pub IsSkip : ℕ → Type 0
 IsSkip count = (1 ≤ count) × (count ≤ 8192)
 
+-- the words that an operation names are of 64 bits
+abbrev pub AreOperationWords : Op → Type 0
+AreOperationWords Load = Unit {0}
+AreOperationWords (Store value) = value < 2 ^ 64
+AreOperationWords (Swap value) = value < 2 ^ 64
+AreOperationWords (Compare expected next) = (expected < 2 ^ 64) × (next < 2 ^ 64)
+AreOperationWords (Xor value) = value < 2 ^ 64
+
 -- an item of a guest processor; an access has any address that is a multiple of 8, and PVALIDATE and RMPADJUST have any address at all
 abbrev pub IsCpuItem : Item → Type 0
-IsCpuItem (items.Access address op) = address % 8 ≡ 0
+IsCpuItem (items.Access address op) = (address % 8 ≡ 0) × AreOperationWords op
 IsCpuItem (items.Pvalidate address size validate) = Unit {0}
 IsCpuItem (items.Rmpadjust address size target mask vmsa) = (target < 256) × (mask < 256)
 IsCpuItem (items.Rmpupdate update) = ⊥
@@ -58,7 +68,7 @@ IsUpdate update = (update.asid < 1024) × (update.gpn < 2 ^ 36)
 
 -- an item of a hypervisor processor; an access has such an address in memory, and the frame of PSMASH is any number
 abbrev pub IsHostItem : ℕ → Item → Type 0
-IsHostItem frames (items.Access address op) = (address < 4096 * frames) × (address % 8 ≡ 0)
+IsHostItem frames (items.Access address op) = (address < 4096 * frames) × (address % 8 ≡ 0) × AreOperationWords op
 IsHostItem frames (items.Pvalidate address size validate) = ⊥
 IsHostItem frames (items.Rmpadjust address size target mask vmsa) = ⊥
 IsHostItem frames (items.Rmpupdate update) = IsUpdate update
