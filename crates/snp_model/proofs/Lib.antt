@@ -7,6 +7,7 @@ pub mod CommandLaws
 pub mod CommandTests
 pub mod ContextLaws
 pub mod CoreLaws
+pub mod CoreSteps
 pub mod DisciplineLaws
 pub mod DisciplinedItems
 pub mod EntriesLaws
@@ -30,6 +31,7 @@ pub mod LargeCommands
 pub mod LargeInstructions
 pub mod LargeItems
 pub mod LargePages
+pub mod InOrder
 pub mod LaunchUseLaws
 pub mod LineLaws
 pub mod ListedLaws
@@ -43,6 +45,7 @@ pub mod LockedWalks
 pub mod MadeComputed
 pub mod MadeKept
 pub mod MadeLaws
+pub mod MadeSteps
 pub mod MemoryLaws
 pub mod MetadataLaws
 pub mod MoveLocality

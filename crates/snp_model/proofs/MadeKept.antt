@@ -129,19 +129,19 @@ leaves_sealing g old new archive later (commands.MdRootIn guest source target) s
     (leaves.contexts guest context, tt, own_archive g guest archive later standing.context_lock context leaves.archive_is)
 
 -- a command without a guest seals nothing
-abbrev IsSealingOf : Option ℕ → Command → Type 0
+abbrev pub IsSealingOf : Option ℕ → Command → Type 0
 IsSealingOf None command = sealing_of command ≡ None
 IsSealingOf (Some guest) command = Unit {0}
 
 -- what was tested of an attempt whose context lock is its command's
-tests_of : (frames : ℕ) (guests : List GuestSpec) (contents : Contents) (command : Command) (standing : Standing) → AreCommandLocks frames guests contents command standing
+pub tests_of : (frames : ℕ) (guests : List GuestSpec) (contents : Contents) (command : Command) (standing : Standing) → AreCommandLocks frames guests contents command standing
     → (owner : Option ℕ) → guest_of command ≡ owner → standing.context_lock ≡ owner → length standing.locks ≡ length (pages_of command) → IfSome (entry_of command) (λ (n : ℕ). n < 64)
     → IsSealingOf owner command → SealingTests (command_asid guests command) contents.pages (sealing_of command)
 tests_of frames guests contents command standing tested None guest_is context all below none = subst (λ (sealing : Option Sealing). SealingTests (command_asid guests command) contents.pages sealing) (sym none) tt
 tests_of frames guests contents command standing tested (Some guest) guest_is context all below none = sealing_tests frames guests contents command standing guest tested context all below
 
 -- which is so
-guestless : (command : Command) → IsSealingOf (guest_of command) command
+pub guestless : (command : Command) → IsSealingOf (guest_of command) command
 unfolding guest_of sealing_of
 guestless (commands.GctxCreate guest frame) = tt
 guestless (commands.Activate guest asid) = tt
