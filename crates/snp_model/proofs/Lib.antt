@@ -52,8 +52,10 @@ pub mod MoveLocality
 pub mod MoveUseLaws
 pub mod NestedReadsLaws
 pub mod OpenAttemptsLaws
+pub mod OpeningHolders
 pub mod OpeningInvariant
 pub mod OpeningLaws
+pub mod OpeningOrder
 pub mod OpeningPages
 pub mod OpeningParts
 pub mod OrderedLaws

@@ -16,9 +16,10 @@ use Rattle.snp_model.specs.Sound.{Pairwise, IsSound}
 use Rattle.snp_model.specs.State.{zero_words}
 use Rattle.snp_model.specs.Uniqueness.{Seals, CountersDiffer, IsSingle}
 use Rattle.snp_model.proofs.CoreLaws.{IsDead}
-use Rattle.snp_model.proofs.GuestMemoryLaws.{opening_keeps}
+use Rattle.snp_model.proofs.OpeningHolders.{opening_holders}
 use Rattle.snp_model.proofs.OpeningLaws.{opening_plain, no_root, some_none, plain_metadata, opening_dead}
 use Rattle.snp_model.proofs.OpeningParts.{opening_locked, opening_made, opening_shaped}
+use Rattle.snp_model.proofs.SealOutCommit.{Ties}
 
 -- no frame is of kind Metadata, and there is no root
 pub record IsPlain (vault : Vault) : Type 0 where
@@ -139,19 +140,26 @@ opening_is_dead c guest past = opening_dead c.guests guest c.pages (words_from (
 opening_core_of : (c : Scenario) (guest : ℕ) (past : Past) → IsSound c → 0 < guest → guest ≤ length c.guests
     → Core (asid_of (opening c).guests guest) (vault_of guest (opening c).contents (past.archive guest)) (opening_memory c guest)
 unfolding opening
-opening_core_of c guest past sound some most = (opening_keeps c guest (past.archive guest) sound some most).core
+opening_core_of c guest past sound some most = opening_holders c guest (past.archive guest) sound some most
+
+pub opening_ties : (c : Scenario) (guest : ℕ) (past : Past) → IsSound c → 0 < guest → guest ≤ length c.guests
+    → Ties (asid_of (opening c).guests guest) (vault_of guest (opening c).contents (past.archive guest)) (opening_memory c guest)
+opening_ties c guest past sound some most = record {
+  core = opening_core_of c guest past sound some most;
+  seals = plain_seals (asid_of (opening c).guests guest) (vault_of guest (opening c).contents (past.archive guest)) (opening_is_plain c guest past) (opening_is_dead c guest past);
+}
 
 pub opening_unique : (c : Scenario) (guest : ℕ) (past : Past) → IsSound c → 0 < guest → guest ≤ length c.guests → IsUnique guest (opening c) past (opening_memory c guest)
 opening_unique c guest past sound some most =
     let m = opening c in
     let asid = asid_of m.guests guest in
     let vault = vault_of guest m.contents (past.archive guest) in
-    let core = opening_core_of c guest past sound some most in
+    let ties = opening_ties c guest past sound some most in
     record {
-      single = plain_single asid vault (opening_memory c guest) m.frames (opening_is_plain c guest past) core;
-      held = core.held;
-      known_words = core.agree;
-      seals = plain_seals asid vault (opening_is_plain c guest past) (opening_is_dead c guest past);
+      single = plain_single asid vault (opening_memory c guest) m.frames (opening_is_plain c guest past) ties.core;
+      held = ties.core.held;
+      known_words = ties.core.agree;
+      seals = ties.seals;
       locks = opening_locked c;
       made = opening_made guest c past;
       shapes = opening_shaped c sound;

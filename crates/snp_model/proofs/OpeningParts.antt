@@ -40,7 +40,7 @@ parts_idle [] k = refl
 parts_idle (actor ∷ actors) zero = refl
 parts_idle (actor ∷ actors) (suc k) = parts_idle actors k
 
-part_idle : (c : Scenario) (actor : ℕ) → (part_of (opening c) actor).standing ≡ nothing_taken
+pub part_idle : (c : Scenario) (actor : ℕ) → (part_of (opening c) actor).standing ≡ nothing_taken
 unfolding opening
 part_idle c actor = parts_idle c.actors (actor - 1)
 
