@@ -63,6 +63,7 @@ pub mod PageBytesLaws
 pub mod PageStateLaws
 pub mod PageUseLaws
 pub mod PairLaws
+pub mod PassingLaws
 pub mod PastSteps
 pub mod RangeLaws
 pub mod ReadingLaws

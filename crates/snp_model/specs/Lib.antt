@@ -66,6 +66,7 @@ pub mod State
 pub mod Step
 pub mod Texts
 pub mod Touches
+pub mod UniqueRuns
 pub mod Uniqueness
 pub mod Validation
 pub mod Vectors

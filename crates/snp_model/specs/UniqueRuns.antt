@@ -1,0 +1,60 @@
+-- The runs in which each page of a guest has one holder at most, and the private accesses that pass in them (this project's own; the checks are those of APM volume 2, 15.36.10).
+use Rattle.std.specs.Prelude.{◌≡◌, ℕ, ◌<◌, ◌≤◌, true, List, length, Option, Some}
+use Rattle.snp_model.specs.declared.event.Deed.{Deed}
+use Rattle.snp_model.specs.declared.event.Deed.TheVariants as deeds
+use Rattle.snp_model.specs.declared.event.Outcome.{Outcome}
+use Rattle.snp_model.specs.declared.event.Outcome.TheVariants as outcomes
+use Rattle.snp_model.specs.declared.scenario.Role.{Role}
+use Rattle.snp_model.specs.declared.scenario.Role.TheVariants.{Cpu}
+use Rattle.snp_model.specs.declared.scenario.Scenario.{Scenario}
+use Rattle.snp_model.specs.Holders.{Holder, Holds}
+use Rattle.snp_model.specs.Live.{Vault, vault_of}
+use Rattle.snp_model.specs.Past.{archive_of}
+use Rattle.snp_model.specs.Premises.{IsDisciplined, NoChanceTag}
+use Rattle.snp_model.specs.Run.{IsDefined, state_after}
+use Rattle.snp_model.specs.Sound.{IsSound}
+use Rattle.snp_model.specs.State.{State, part_of}
+use Rattle.snp_model.specs.Step.{event_of}
+
+-- a run of a sound scenario, in which a declared guest is disciplined, and no ciphertext meets the tag of another where a page is opened for it
+pub record MeetsPremises (scenario : Scenario) (schedule : List ℕ) (guest : ℕ) : Type 0 where
+  pub sound : IsSound scenario
+  pub defined : IsDefined scenario schedule
+  pub some : 0 < guest
+  pub most : guest ≤ length scenario.guests
+  pub disciplined : IsDisciplined scenario schedule guest
+  pub no_chance : NoChanceTag scenario schedule guest
+
+-- all that tells the guest's live entries at its end
+abbrev pub vault_after : Scenario → List ℕ → ℕ → Vault
+vault_after scenario schedule guest = vault_of guest (state_after scenario schedule).contents (archive_of scenario schedule guest)
+
+-- a holder has a page, and no other has it
+pub record IsOneHolder (asid : ℕ) (vault : Vault) (gpn : ℕ) (holder : Holder) : Type 0 where
+  pub words : List ℕ
+  pub holds : Holds asid vault gpn holder words
+  pub only : (other : Holder) (kept : List ℕ) → Holds asid vault gpn other kept → other ≡ holder
+
+-- a data access with this outcome has passed its check
+abbrev pub IsPassed : Outcome → Type 0
+IsPassed (outcomes.Loaded found) = Unit {0}
+IsPassed outcomes.Stored = Unit {0}
+IsPassed (outcomes.Swapped found) = Unit {0}
+IsPassed (outcomes.Compared found written) = Unit {0}
+IsPassed outcome = ⊥
+
+-- an event is a private access that has passed its check, at this page and frame: a data access, or the read of a word of a guest table
+abbrev pub IsPassedAccess : Deed → Option Outcome → ℕ → ℕ → Type 0
+IsPassedAccess (deeds.Table page index place (Some value)) outcome gpn frame = (page ≡ gpn) × (place ≡ frame)
+IsPassedAccess (deeds.Access page index place true) (Some outcome) gpn frame = (page ≡ gpn) × (place ≡ frame) × IsPassed outcome
+IsPassedAccess deed outcome gpn frame = ⊥
+
+-- an actor of this role is a processor of the guest
+abbrev pub IsProcessorOf : ℕ → Role → Type 0
+IsProcessorOf guest (Cpu owner vmpl npt paging) = owner ≡ guest
+IsProcessorOf guest role = ⊥
+
+-- the next event of an actor is such an access of a processor of the guest
+abbrev pub Passes : ℕ → State → ℕ → ℕ → ℕ → Type 0
+Passes guest m actor gpn frame =
+    IsProcessorOf guest (part_of m actor).role × IsPassedAccess (event_of m actor).deed (event_of m actor).outcome gpn frame
