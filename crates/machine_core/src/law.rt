@@ -3,15 +3,12 @@ ghost use Rattle.snp_model.specs.declared.entry.PageSize.TheVariants.{Large};
 ghost use Rattle.snp_model.specs.declared.scenario.GuestSpec.{GuestSpec};
 ghost use Rattle.snp_model.specs.declared.scenario.Scenario.{Scenario};
 ghost use Rattle.snp_model.specs.Attempts.{attempts_of};
-ghost use Rattle.snp_model.specs.GuestMemory.{memory_after, opening_memory};
+ghost use Rattle.snp_model.specs.GuestMemory.{opening_memory};
 ghost use Rattle.snp_model.specs.HeldLocks.{AreExclusive, AreLocked, AreTested};
-ghost use Rattle.snp_model.specs.Holders.{Core};
 ghost use Rattle.snp_model.specs.Invariant.{IsUnique};
-ghost use Rattle.snp_model.specs.Live.{Archive, vault_of};
 ghost use Rattle.snp_model.specs.OpenAttempts.{AreWalking, ReadsMemory};
-ghost use Rattle.snp_model.specs.Opening.{asid_of, opening};
+ghost use Rattle.snp_model.specs.Opening.{opening};
 ghost use Rattle.snp_model.specs.Past.{Past};
-ghost use Rattle.snp_model.specs.Premises.{IsDisciplined};
 ghost use Rattle.snp_model.specs.Reading.{Valid};
 ghost use Rattle.snp_model.specs.Ready.{AreReady};
 ghost use Rattle.snp_model.specs.Room.{AreBounded};
@@ -71,11 +68,4 @@ pub fn machine_laws()
     ensures whole { (scenario : Scenario) (schedule : List ℕ) (frame : ℕ)
         → Valid scenario → IsDefined scenario schedule → ((state_after scenario schedule).contents.pages frame).facts.size ≡ Large
         → IsWholePage (state_after scenario schedule).contents.pages frame }
-
-    // In every run in which a declared guest is disciplined, which validates and launches no page while it holds it, each
-    // of its pages has at most one holder, which has a page of the guest's memory with its known words.
-    ensures holders { (scenario : Scenario) (schedule : List ℕ) (archive : Archive) (guest : ℕ)
-        → Valid scenario → IsDefined scenario schedule → 0 < guest → guest ≤ length scenario.guests → IsDisciplined scenario schedule guest
-        → Core (asid_of scenario.guests guest) (vault_of guest (state_after scenario schedule).contents archive)
-        (memory_after scenario schedule guest) }
 {}

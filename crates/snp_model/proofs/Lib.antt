@@ -72,7 +72,6 @@ pub mod ReclaimUseLaws
 pub mod RegionLaws
 pub mod RegionPagesLaws
 pub mod RoomLaws
-pub mod RunInvariant
 pub mod RunLaws
 pub mod SealInCommit
 pub mod SealInLaws
@@ -82,6 +81,9 @@ pub mod SealOutLaws
 pub mod SealingCommits
 pub mod SealingPages
 pub mod SealingTests
+pub mod SealedLaws
+pub mod SealedRuns
+pub mod SealedSteps
 pub mod ShapeLaws
 pub mod ShapedLaws
 pub mod SingleLaws
@@ -93,7 +95,6 @@ pub mod TagLaws
 pub mod TestedLaws
 pub mod TestedPages
 pub mod TestedRanges
-pub mod UnownedLaws
 pub mod UpdateLaws
 pub mod UseLaws
 pub mod ValidateUseLaws

@@ -66,11 +66,6 @@ IsDisciplinedFrom guest m memory (actor ∷ actors) =
 abbrev pub IsDisciplined : Scenario → List ℕ → ℕ → Type 0
 IsDisciplined scenario schedule guest = IsDisciplinedFrom guest (opening scenario) (opening_memory scenario guest) schedule
 
--- the private accesses of each declared guest that is disciplined are one legal history of a memory of its own, whatever the other guests are
-abbrev pub AreLegal : Scenario → List ℕ → Type 0
-AreLegal scenario schedule =
-    (guest : ℕ) → 0 < guest → guest ≤ length scenario.guests → IsDisciplined scenario schedule guest → IsLegal scenario schedule guest
-
 -- these are the words of a ciphertext that was archived; where nothing was, they aren't
 abbrev pub IsCipherOf : Option Archived → List ℕ → Type 0
 IsCipherOf None words = ⊥
@@ -108,3 +103,8 @@ NoChanceFrom guest m past (actor ∷ actors) = NoChanceStep guest m actor past �
 -- no ciphertext meets the tag of another in a schedule of a scenario, where a page is opened for the guest
 abbrev pub NoChanceTag : Scenario → List ℕ → ℕ → Type 0
 NoChanceTag scenario schedule guest = NoChanceFrom guest (opening scenario) empty_past schedule
+
+-- the private accesses of each declared guest that is disciplined are one legal history of a memory of its own, where no ciphertext meets the tag of another where a page is opened for it; nothing is asked of nested tables, hypervisor processors, commands of the firmware or other guests, of their discipline or of their keys
+abbrev pub AreLegal : Scenario → List ℕ → Type 0
+AreLegal scenario schedule =
+    (guest : ℕ) → 0 < guest → guest ≤ length scenario.guests → IsDisciplined scenario schedule guest → NoChanceTag scenario schedule guest → IsLegal scenario schedule guest

@@ -1,10 +1,9 @@
-use Rattle.snp_model.proofs.GuestMemoryLaws.{state_keeps_core}
 use Rattle.snp_model.proofs.LocalityLaws.{step_local}
 use Rattle.snp_model.proofs.LockedRuns.{run_exclusive, run_tested}
 use Rattle.snp_model.proofs.OpeningInvariant.{opening_unique}
 use Rattle.snp_model.proofs.ReadyLaws.{run_ready}
 use Rattle.snp_model.proofs.RoomLaws.{run_bounded}
-use Rattle.snp_model.proofs.RunInvariant.{run_locked, run_whole_pages}
+use Rattle.snp_model.proofs.SealedLaws.{run_locked, run_shaped}
 use Rattle.snp_model.proofs.SoundLaws.{valid_is_sound}
 use Rattle.machine_core.proofs.law.machine_laws.Goals as goal
 
@@ -17,14 +16,11 @@ returns-clause-short c = run_bounded
 pub returns-clause-ready : goal.returns-clause-ready
 returns-clause-ready c = λ scenario schedule valid defined. run_ready scenario schedule (valid_is_sound scenario valid) defined
 
-pub returns-clause-holders : goal.returns-clause-holders
-returns-clause-holders c = λ scenario schedule archive guest valid defined some most disciplined. state_keeps_core scenario schedule archive (valid_is_sound scenario valid) defined guest some most disciplined
-
 pub returns-clause-locked : goal.returns-clause-locked
 returns-clause-locked c = λ scenario schedule valid defined. run_locked scenario schedule (valid_is_sound scenario valid) defined
 
 pub returns-clause-whole : goal.returns-clause-whole
-returns-clause-whole c = λ scenario schedule frame valid defined large. run_whole_pages scenario schedule (valid_is_sound scenario valid) defined frame large
+returns-clause-whole c = λ scenario schedule frame valid defined large. (run_shaped scenario schedule (valid_is_sound scenario valid) defined).whole frame large
 
 pub returns-clause-opening : goal.returns-clause-opening
 returns-clause-opening c = λ scenario guest past valid some most. opening_unique scenario guest past (valid_is_sound scenario valid) some most

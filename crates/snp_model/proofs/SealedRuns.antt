@@ -1,0 +1,90 @@
+-- Every run of a sound scenario keeps its states in order; and where a declared guest is disciplined in it and no ciphertext meets the tag of another, what ties the guest's pages to their holders holds in each state, and its private accesses are one legal history.
+use Rattle.std.proofs.Common.{◌≡◌, ℕ, ◌<◌, ◌≤◌, List, [], ◌∷◌, length, sym, ap, subst}
+use Rattle.snp_model.specs.declared.scenario.GuestSpec.{GuestSpec}
+use Rattle.snp_model.specs.declared.scenario.Scenario.{Scenario}
+use Rattle.snp_model.specs.GuestMemory.{Memory, next_use, used, opening_memory, memory_from, memory_after, IsLegalFrom, IsLegal}
+use Rattle.snp_model.specs.MadePages.{AreMade}
+use Rattle.snp_model.specs.Opening.{opening}
+use Rattle.snp_model.specs.Past.{Past, empty_past, past_after, past_from, past_of}
+use Rattle.snp_model.specs.Premises.{IsDisciplinedStep, IsDisciplinedFrom, IsDisciplined, NoChanceStep, NoChanceFrom, NoChanceTag}
+use Rattle.snp_model.specs.Run.{state_from, state_after, IsDefinedFrom, IsDefined}
+use Rattle.snp_model.specs.Sound.{IsSound}
+use Rattle.snp_model.specs.State.{State, IsUnfinished}
+use Rattle.snp_model.specs.Step.{after}
+use Rattle.snp_model.proofs.CoreSteps.{TiesAt, each_core, each_legal}
+use Rattle.snp_model.proofs.InOrder.{IsInOrder}
+use Rattle.snp_model.proofs.MadeSteps.{each_made}
+use Rattle.snp_model.proofs.OpeningInvariant.{opening_ties}
+use Rattle.snp_model.proofs.OpeningOrder.{opening_order}
+use Rattle.snp_model.proofs.OpeningParts.{opening_made}
+use Rattle.snp_model.proofs.RunLaws.{after_guests}
+use Rattle.snp_model.proofs.SealedSteps.{each_order, each_seals}
+
+-- a run from a state in order
+order_from : (m : State) (s : List ℕ) → IsDefinedFrom m s → IsInOrder m → IsInOrder (state_from m s)
+unfolding state_from IsDefinedFrom
+order_from m [] defined order = order
+order_from m (a ∷ s) defined order = order_from (after m a) s defined.1 (each_order m a defined.0 order)
+
+pub run_order : (c : Scenario) (s : List ℕ) → IsSound c → IsDefined c s → IsInOrder (state_after c s)
+run_order c s sound defined = order_from (opening c) s defined (opening_order c sound)
+
+-- what a state keeps for a declared guest
+pub record Holding (g : ℕ) (m : State) (past : Past) (memory : Memory) : Type 0 where
+  pub most : g ≤ length m.guests
+  pub order : IsInOrder m
+  pub made : AreMade g m past
+  pub ties : TiesAt g m past memory
+
+-- one event keeps it
+holding_step : (g : ℕ) (m : State) (past : Past) (memory : Memory) (a : ℕ) → 0 < g → IsUnfinished m a → IsDisciplinedStep g m a memory → NoChanceStep g m a past → Holding g m past memory
+    → Holding g (after m a) (past_after m a past) (used (next_use g m a) memory)
+holding_step g m past memory a some unfinished disciplined chance holding = record {
+  most = subst (λ (guests : List GuestSpec). g ≤ length guests) (sym (after_guests m a)) holding.most;
+  order = each_order m a unfinished holding.order;
+  made = each_made g m a past memory some holding.most unfinished holding.order chance holding.ties holding.made;
+  ties = record {
+    core = each_core g m a past memory some holding.most unfinished holding.order holding.made disciplined holding.ties;
+    seals = each_seals g m a past memory some holding.most unfinished holding.order holding.made holding.ties;
+  };
+}
+
+-- and a schedule
+holding_from : (g : ℕ) (m : State) (past : Past) (memory : Memory) (s : List ℕ) → 0 < g → IsDefinedFrom m s → IsDisciplinedFrom g m memory s → NoChanceFrom g m past s → Holding g m past memory
+    → Holding g (state_from m s) (past_from m past s) (memory_from g m memory s)
+unfolding state_from past_from memory_from IsDefinedFrom IsDisciplinedFrom NoChanceFrom
+holding_from g m past memory [] some defined disciplined chance holding = holding
+holding_from g m past memory (a ∷ s) some defined disciplined chance holding =
+    holding_from g (after m a) (past_after m a past) (used (next_use g m a) memory) s some defined.1 disciplined.1 chance.1
+    (holding_step g m past memory a some defined.0 disciplined.0 chance.0 holding)
+
+legal_from : (g : ℕ) (m : State) (past : Past) (memory : Memory) (s : List ℕ) → 0 < g → IsDefinedFrom m s → IsDisciplinedFrom g m memory s → NoChanceFrom g m past s → Holding g m past memory → IsLegalFrom g m memory s
+unfolding IsLegalFrom IsDefinedFrom IsDisciplinedFrom NoChanceFrom
+legal_from g m past memory [] some defined disciplined chance holding = tt
+legal_from g m past memory (a ∷ s) some defined disciplined chance holding = (
+  each_legal g m a past memory some holding.most defined.0 holding.order holding.made disciplined.0 holding.ties,
+  legal_from g (after m a) (past_after m a past) (used (next_use g m a) memory) s some defined.1 disciplined.1 chance.1
+      (holding_step g m past memory a some defined.0 disciplined.0 chance.0 holding),
+)
+
+-- from the opening
+opening_most : (c : Scenario) (g : ℕ) → g ≤ length c.guests → g ≤ length (opening c).guests
+unfolding opening
+opening_most c g most = most
+
+opening_holding : (c : Scenario) (g : ℕ) → IsSound c → 0 < g → g ≤ length c.guests → Holding g (opening c) empty_past (opening_memory c g)
+opening_holding c g sound some most = record {
+  most = opening_most c g most;
+  order = opening_order c sound;
+  made = opening_made g c empty_past;
+  ties = opening_ties c g empty_past sound some most;
+}
+
+pub run_holding : (c : Scenario) (s : List ℕ) (g : ℕ) → IsSound c → IsDefined c s → 0 < g → g ≤ length c.guests → IsDisciplined c s g → NoChanceTag c s g
+    → Holding g (state_after c s) (past_of c s) (memory_after c s g)
+run_holding c s g sound defined some most disciplined chance =
+    holding_from g (opening c) empty_past (opening_memory c g) s some defined disciplined chance (opening_holding c g sound some most)
+
+pub run_legal : (c : Scenario) (s : List ℕ) (g : ℕ) → IsSound c → IsDefined c s → 0 < g → g ≤ length c.guests → IsDisciplined c s g → NoChanceTag c s g → IsLegal c s g
+run_legal c s g sound defined some most disciplined chance =
+    legal_from g (opening c) empty_past (opening_memory c g) s some defined disciplined chance (opening_holding c g sound some most)
