@@ -10,6 +10,7 @@ pub mod CoreLaws
 pub mod DisciplineLaws
 pub mod DisciplinedItems
 pub mod EntriesLaws
+pub mod EntryWords
 pub mod FindingLaws
 pub mod FirmwareLocality
 pub mod FirmwareLocked
