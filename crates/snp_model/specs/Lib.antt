@@ -41,6 +41,7 @@ pub mod NestedReads
 pub mod NestedWalk
 pub mod OpenAttempts
 pub mod Opening
+pub mod Operands
 pub mod Operations
 pub mod Outcomes
 pub mod Outside
