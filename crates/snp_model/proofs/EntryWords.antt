@@ -29,7 +29,7 @@ words_until (suc n) (w ∷ words) are (suc i) = words_until n words (λ k. are (
 words_behind : (n : ℕ) (words : List ℕ) → AreWords words → AreWords (drop n words)
 words_behind n words are i = rw (get_or-drop n words i 0) (are (n + i))
 
-zeros_are_words : (n : ℕ) → AreWords (replicate n 0)
+pub zeros_are_words : (n : ℕ) → AreWords (replicate n 0)
 zeros_are_words zero i = omega arith
 zeros_are_words (suc n) zero = omega arith
 zeros_are_words (suc n) (suc i) = zeros_are_words n i

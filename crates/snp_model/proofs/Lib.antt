@@ -18,6 +18,7 @@ pub mod FirmwareLocality
 pub mod FirmwareLocked
 pub mod FirmwareUseLaws
 pub mod FitFacts
+pub mod FitPages
 pub mod FreshLaws
 pub mod GctrLaws
 pub mod GuestMemoryLaws
