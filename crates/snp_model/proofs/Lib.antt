@@ -17,6 +17,7 @@ pub mod FindingLaws
 pub mod FirmwareLocality
 pub mod FirmwareLocked
 pub mod FirmwareUseLaws
+pub mod FitCommands
 pub mod FitFacts
 pub mod FitPages
 pub mod FreshLaws
