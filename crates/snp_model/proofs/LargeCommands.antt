@@ -205,7 +205,7 @@ some_none : {X : Type 0} (x : X) → Some x ≡ None → ⊥
 some_none x e = cc
 
 -- the commit of each command
-commit_large : (frames : ℕ) (guests : List GuestSpec) (contents : Contents) (part : ActorPart) (command : Command) (made : Computed) → sealing_of command ≡ None → IsReady frames guests contents command part.standing → AreLargeWhole contents.pages
+pub commit_large : (frames : ℕ) (guests : List GuestSpec) (contents : Contents) (part : ActorPart) (command : Command) (made : Computed) → sealing_of command ≡ None → IsReady frames guests contents command part.standing → AreLargeWhole contents.pages
     → AreLargeWhole (pages_after command part.standing.locks made contents.pages)
 unfolding sealing_of pages_of pages_after context_facts launched_facts metadata_facts
 commit_large frames guests contents part (commands.GctxCreate owner frame) made plain ready whole =

@@ -19,7 +19,7 @@ use Rattle.snp_model.proofs.TestedRanges.{updated_large, smashed_large}
 use Rattle.snp_model.proofs.UseLaws.{IsProved}
 
 -- where no facts change
-same_facts_whole : (old new : Pages) → ((f : ℕ) → (new f).facts ≡ (old f).facts) → AreLargeWhole old → AreLargeWhole new
+pub same_facts_whole : (old new : Pages) → ((f : ℕ) → (new f).facts ≡ (old f).facts) → AreLargeWhole old → AreLargeWhole new
 same_facts_whole old new same whole =
     small_changes_whole old new (λ _. false)
     (record { same = λ f _. same f; was_small = λ f is. absurd (true≢false (sym is)); is_small = λ f is. absurd (true≢false (sym is)) }) whole

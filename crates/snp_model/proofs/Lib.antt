@@ -2,8 +2,10 @@ pub mod AcceptLaws
 pub mod Adding
 pub mod AttemptLaws
 pub mod Chains
+pub mod ChangeLaws
 pub mod CipherLaws
 pub mod CommandLaws
+pub mod CommandStages
 pub mod CommandTests
 pub mod ContextLaws
 pub mod CoreLaws
@@ -11,10 +13,14 @@ pub mod CoreSteps
 pub mod DisciplineLaws
 pub mod DisciplinedItems
 pub mod EntriesLaws
+pub mod EntryWords
 pub mod FindingLaws
 pub mod FirmwareLocality
 pub mod FirmwareLocked
 pub mod FirmwareUseLaws
+pub mod FitCommands
+pub mod FitFacts
+pub mod FitPages
 pub mod FreshLaws
 pub mod GctrLaws
 pub mod GuestMemoryLaws
@@ -22,6 +28,7 @@ pub mod GuestReadsLaws
 pub mod HeldLocksLaws
 pub mod HolderLaws
 pub mod InstructionLocality
+pub mod InOrder
 pub mod ItemSoundLaws
 pub mod ItemUseLaws
 pub mod JournalsLaws

@@ -43,7 +43,7 @@ unfolding opened
 words_full context entry words found keys full is =
     subst IsFull (answer_is (bytes_eq (found_tag context.key entry words) entry.tag) (opened_words context.key entry words) found _ is) (opened_full context.key entry words keys full)
 
-opening_full : (what : What) (context : Context) (found : Option MetaEntry) (words : List ℕ) (made : Computed) → AreBytes context.key → IsFull words → opened_as what context found words ≡ Ok made → IsFull made.words
+pub opening_full : (what : What) (context : Context) (found : Option MetaEntry) (words : List ℕ) (made : Computed) → AreBytes context.key → IsFull words → opened_as what context found words ≡ Ok made → IsFull made.words
 unfolding opened_as
 opening_full what context None words made keys full is = absurd (cc)
 opening_full what context (Some entry) words made keys full is =
@@ -69,12 +69,12 @@ record IsMadeFull (g : ℕ) (contents : Contents) (archive : Archive) (taken : L
   as_made : IsMadeOf g contents archive taken sealing made
   full : IsFull made.words
 
-out_computed : (contents : Contents) (what : What) (owner source target : ℕ) (slot : Slot) (made : Computed) → compute_of contents (SealOut what owner source target slot) ≡ Ok made
+pub out_computed : (contents : Contents) (what : What) (owner source target : ℕ) (slot : Slot) (made : Computed) → compute_of contents (SealOut what owner source target slot) ≡ Ok made
     → made_of (sealed_as what (contents.contexts owner) (contents.pages source)) ≡ made
 unfolding compute_of
 out_computed contents what owner source target slot made is = cc
 
-in_computed : (contents : Contents) (what : What) (owner source target : ℕ) (slot : Slot) (made : Computed) → compute_of contents (SealIn what owner source target slot) ≡ Ok made
+pub in_computed : (contents : Contents) (what : What) (owner source target : ℕ) (slot : Slot) (made : Computed) → compute_of contents (SealIn what owner source target slot) ≡ Ok made
     → opened_as what (contents.contexts owner) (slot_entry contents.pages (contents.contexts owner) slot) (contents.pages source).words ≡ Ok made
 unfolding compute_of
 in_computed contents what owner source target slot made is = is

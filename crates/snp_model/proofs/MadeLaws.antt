@@ -39,7 +39,7 @@ opened_is : (context : Context) (entry : MetaEntry) (words found : List ℕ) →
 unfolding opened
 opened_is context entry words found is = sym (guard_ok (bytes_eq (found_tag context.key entry words) entry.tag) (opened_words context.key entry words) found _ is).1
 
-compute_opening : (what : What) (context : Context) (found : Option MetaEntry) (words : List ℕ) (made : Computed) → opened_as what context found words ≡ Ok made → IsOpening what context found words made
+pub compute_opening : (what : What) (context : Context) (found : Option MetaEntry) (words : List ℕ) (made : Computed) → opened_as what context found words ≡ Ok made → IsOpening what context found words made
 unfolding opened_as
 compute_opening what context None words made is = absurd (cc)
 compute_opening what context (Some entry) words made is =

@@ -178,7 +178,7 @@ zeros_fit : (index : ℕ) → get_or zero_words index 0 < 2 ^ 64
 unfolding zero_words
 zeros_fit index = let none = zero_at 512 index in omega arith
 
-set_fit : (words : List ℕ) (at value index : ℕ) → value < 2 ^ 64 → ((k : ℕ) → get_or words k 0 < 2 ^ 64) → get_or (set words at value) index 0 < 2 ^ 64
+pub set_fit : (words : List ℕ) (at value index : ℕ) → value < 2 ^ 64 → ((k : ℕ) → get_or words k 0 < 2 ^ 64) → get_or (set words at value) index 0 < 2 ^ 64
 set_fit [] at value index small fit = fit index
 set_fit (word ∷ words) zero value zero small fit = small
 set_fit (word ∷ words) zero value (suc index) small fit = fit (suc index)

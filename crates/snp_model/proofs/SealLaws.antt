@@ -41,10 +41,10 @@ opened_sealed key entry words keys are =
     ∙ words_of_bytes-page_bytes words are
 
 -- eight bytes make a word of 64 bits, so what is sealed and what is opened is full
-eight_bytes_fit : (bytes : List ℕ) → AreBytes bytes → from_le_bytes w64 bytes < 2 ^ 64
+pub eight_bytes_fit : (bytes : List ℕ) → AreBytes bytes → from_le_bytes w64 bytes < 2 ^ 64
 eight_bytes_fit bytes are = omega (arith, are 0, are 1, are 2, are 3, are 4, are 5, are 6, are 7)
 
-words_fit : (n : ℕ) (bytes : List ℕ) → AreBytes bytes → AreWords (first_words n bytes)
+pub words_fit : (n : ℕ) (bytes : List ℕ) → AreBytes bytes → AreWords (first_words n bytes)
 unfolding first_words
 words_fit zero bytes are = λ i. omega arith
 words_fit (suc n) bytes are = λ i. first_fits (take 8 bytes) (first_words n (drop 8 bytes)) (eight_bytes_fit (take 8 bytes) (are_until 8 bytes are)) (words_fit n (drop 8 bytes) (are_from 8 bytes are)) i
