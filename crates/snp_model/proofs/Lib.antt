@@ -38,7 +38,6 @@ pub mod LargeCommands
 pub mod LargeInstructions
 pub mod LargeItems
 pub mod LargePages
-pub mod InOrder
 pub mod LaunchUseLaws
 pub mod LineLaws
 pub mod ListedLaws
