@@ -16,7 +16,7 @@ use Rattle.snp_model.specs.Shapes.{AreFactsOf, AreShaped}
 use Rattle.snp_model.specs.Sound.{IsSound}
 use Rattle.snp_model.specs.State.{State}
 use Rattle.snp_model.specs.Step.{after}
-use Rattle.snp_model.specs.UniqueRuns.{MeetsPremises, vault_after, IsOneHolder, Passes}
+use Rattle.snp_model.specs.UniqueRuns.{HasOnePlace, IsOneHolder, MeetsPremises, Passes, vault_after}
 use Rattle.snp_model.proofs.InOrder.{IsInOrder}
 use Rattle.snp_model.proofs.LockedRuns.{IsMetadataFirm, are_locked}
 use Rattle.snp_model.proofs.PassingLaws.{passed_held}
@@ -75,6 +75,11 @@ pub run_unique : (c : Scenario) (s : List ℕ) (guest : ℕ) → MeetsPremises c
 run_unique c s guest meets =
     subst (λ (guests : List GuestSpec). IsUniqueFor guest (state_after c s) (past_of c s) (memory_after c s guest) (asid_of guests guest) (vault_after c s guest)) (guests_after c s)
     (run_is_unique c s guest meets)
+
+-- two holders of one page are one
+pub run_one_place : (c : Scenario) (s : List ℕ) (guest : ℕ) → MeetsPremises c s guest → HasOnePlace (asid_of c.guests guest) (vault_after c s guest)
+run_one_place c s guest meets =
+    subst (λ (guests : List GuestSpec). HasOnePlace (asid_of guests guest) (vault_after c s guest)) (guests_after c s) (holding_after c s guest meets).ties.core.unique
 
 -- a private access that passes is on the one holder of its page
 pub run_passes : (c : Scenario) (s : List ℕ) (guest actor gpn frame : ℕ) → MeetsPremises c s guest → Passes guest (state_after c s) actor gpn frame

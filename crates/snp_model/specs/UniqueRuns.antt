@@ -29,6 +29,11 @@ pub record MeetsPremises (scenario : Scenario) (schedule : List ℕ) (guest : �
 abbrev pub vault_after : Scenario → List ℕ → ℕ → Vault
 vault_after scenario schedule guest = vault_of guest (state_after scenario schedule).contents (archive_of scenario schedule guest)
 
+-- each page has one place at most at which it is held
+abbrev pub HasOnePlace : ℕ → Vault → Type 0
+HasOnePlace asid vault =
+    (gpn : ℕ) (one other : Holder) (words kept : List ℕ) → Holds asid vault gpn one words → Holds asid vault gpn other kept → one ≡ other
+
 -- a holder has a page, and no other has it
 pub record IsOneHolder (asid : ℕ) (vault : Vault) (gpn : ℕ) (holder : Holder) : Type 0 where
   pub words : List ℕ
