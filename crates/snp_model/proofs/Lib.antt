@@ -18,6 +18,7 @@ pub mod FirmwareLocality
 pub mod FirmwareLocked
 pub mod FirmwareUseLaws
 pub mod FitCommands
+pub mod FitContexts
 pub mod FitFacts
 pub mod FitPages
 pub mod FreshLaws
@@ -66,6 +67,7 @@ pub mod PageStateLaws
 pub mod PageUseLaws
 pub mod PairLaws
 pub mod RangeLaws
+pub mod PlainSteps
 pub mod ReadingLaws
 pub mod ReadyLaws
 pub mod ReclaimUseLaws
@@ -84,6 +86,7 @@ pub mod SealingPages
 pub mod SealingTests
 pub mod ShapeLaws
 pub mod ShapedLaws
+pub mod ShapedSteps
 pub mod SingleLaws
 pub mod SoundLaws
 pub mod SpotLaws
