@@ -81,6 +81,8 @@ pub mod SealInLaws
 pub mod SealLaws
 pub mod SealOutCommit
 pub mod SealOutLaws
+pub mod SealedCommands
+pub mod SealedSteps
 pub mod SealingCommits
 pub mod SealingPages
 pub mod SealingTests
