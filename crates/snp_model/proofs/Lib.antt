@@ -19,6 +19,7 @@ pub mod FirmwareLocality
 pub mod FirmwareLocked
 pub mod FirmwareUseLaws
 pub mod FitCommands
+pub mod FitContexts
 pub mod FitFacts
 pub mod FitPages
 pub mod FreshLaws
@@ -72,6 +73,7 @@ pub mod PairLaws
 pub mod PassingLaws
 pub mod PastSteps
 pub mod RangeLaws
+pub mod PlainSteps
 pub mod ReadingLaws
 pub mod ReadyLaws
 pub mod ReclaimUseLaws
@@ -85,11 +87,14 @@ pub mod SealInLaws
 pub mod SealLaws
 pub mod SealOutCommit
 pub mod SealOutLaws
+pub mod SealedCommands
+pub mod SealedSteps
 pub mod SealingCommits
 pub mod SealingPages
 pub mod SealingTests
 pub mod ShapeLaws
 pub mod ShapedLaws
+pub mod ShapedSteps
 pub mod SingleLaws
 pub mod SoundLaws
 pub mod SpotLaws
