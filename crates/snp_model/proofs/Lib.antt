@@ -9,7 +9,6 @@ pub mod CommandStages
 pub mod CommandTests
 pub mod ContextLaws
 pub mod CoreLaws
-pub mod CoreSteps
 pub mod DisciplineLaws
 pub mod DisciplinedItems
 pub mod EntriesLaws
