@@ -9,7 +9,6 @@ pub mod CommandStages
 pub mod CommandTests
 pub mod ContextLaws
 pub mod CoreLaws
-pub mod CoreSteps
 pub mod DisciplineLaws
 pub mod DisciplinedItems
 pub mod EntriesLaws
@@ -19,6 +18,7 @@ pub mod FirmwareLocality
 pub mod FirmwareLocked
 pub mod FirmwareUseLaws
 pub mod FitCommands
+pub mod FitContexts
 pub mod FitFacts
 pub mod FitPages
 pub mod FreshLaws
@@ -72,6 +72,7 @@ pub mod PairLaws
 pub mod PassingLaws
 pub mod PastSteps
 pub mod RangeLaws
+pub mod PlainSteps
 pub mod ReadingLaws
 pub mod ReadyLaws
 pub mod ReclaimUseLaws
@@ -84,6 +85,8 @@ pub mod SealInLaws
 pub mod SealLaws
 pub mod SealOutCommit
 pub mod SealOutLaws
+pub mod SealedCommands
+pub mod SealedSteps
 pub mod SealingCommits
 pub mod SealingPages
 pub mod SealingTests
@@ -92,6 +95,7 @@ pub mod SealedRuns
 pub mod SealedSteps
 pub mod ShapeLaws
 pub mod ShapedLaws
+pub mod ShapedSteps
 pub mod SingleLaws
 pub mod SoundLaws
 pub mod SpotLaws

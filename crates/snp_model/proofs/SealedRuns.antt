@@ -11,14 +11,13 @@ use Rattle.snp_model.specs.Run.{state_from, state_after, IsDefinedFrom, IsDefine
 use Rattle.snp_model.specs.Sound.{IsSound}
 use Rattle.snp_model.specs.State.{State, IsUnfinished}
 use Rattle.snp_model.specs.Step.{after}
-use Rattle.snp_model.proofs.CoreSteps.{TiesAt, each_core, each_legal}
 use Rattle.snp_model.proofs.InOrder.{IsInOrder}
 use Rattle.snp_model.proofs.MadeSteps.{each_made}
 use Rattle.snp_model.proofs.OpeningInvariant.{opening_ties}
 use Rattle.snp_model.proofs.OpeningOrder.{opening_order}
 use Rattle.snp_model.proofs.OpeningParts.{opening_made}
 use Rattle.snp_model.proofs.RunLaws.{after_guests}
-use Rattle.snp_model.proofs.SealedSteps.{each_order, each_seals}
+use Rattle.snp_model.proofs.SealedSteps.{TiesAt, each_order, each_ties, each_legal}
 
 -- a run from a state in order
 order_from : (m : State) (s : List ℕ) → IsDefinedFrom m s → IsInOrder m → IsInOrder (state_from m s)
@@ -43,10 +42,7 @@ holding_step g m past memory a some unfinished disciplined chance holding = reco
   most = subst (λ (guests : List GuestSpec). g ≤ length guests) (sym (after_guests m a)) holding.most;
   order = each_order m a unfinished holding.order;
   made = each_made g m a past memory some holding.most unfinished holding.order chance holding.ties holding.made;
-  ties = record {
-    core = each_core g m a past memory some holding.most unfinished holding.order holding.made disciplined holding.ties;
-    seals = each_seals g m a past memory some holding.most unfinished holding.order holding.made holding.ties;
-  };
+  ties = each_ties g m a past memory some holding.most unfinished holding.order holding.made disciplined holding.ties;
 }
 
 -- and a schedule

@@ -92,11 +92,11 @@ assigned_kind update place is =
     cond_both update.immutable (immutable_kind update.asid kinds.Plain) kinds.Plain (λ (k : Kind). k ≡ kinds.Metadata → ⊥) (λ _. no_metadata_kind update.asid kinds.Plain not_plain) (λ _. not_plain) is
 
 -- the facts and words of a frame after an RMPUPDATE: of a page that becomes immutable, of one that becomes free, and of one that becomes assigned
-record IsUpdated (asid : ℕ) (update : Update) (facts new : RmpEntry) (old_words new_words : List ℕ) : Type 0 where
-  held : (gpn : ℕ) → IsHeldAs new asid gpn → IsHeldAs facts asid gpn × (new_words ≡ old_words)
-  metadata : new.kind ≡ kinds.Metadata → ⊥
-  fits : KindFits new
-  whole : length old_words ≡ 512 → length new_words ≡ 512
+pub record IsUpdated (asid : ℕ) (update : Update) (facts new : RmpEntry) (old_words new_words : List ℕ) : Type 0 where
+  pub held : (gpn : ℕ) → IsHeldAs new asid gpn → IsHeldAs facts asid gpn × (new_words ≡ old_words)
+  pub metadata : new.kind ≡ kinds.Metadata → ⊥
+  pub fits : KindFits new
+  pub whole : length old_words ≡ 512 → length new_words ≡ 512
 
 zeros_whole : length zero_words ≡ 512
 unfolding zero_words
@@ -157,7 +157,7 @@ frozen_updated asid update facts words fits mutable assigned owner = record {
   whole = λ whole. whole;
 }
 
-is_updated : (asid : ℕ) (update : Update) (first : RmpEntry) (place : ℕ) (page : Page) → KindFits page.facts → IsUpdatable update first page.facts
+pub is_updated : (asid : ℕ) (update : Update) (first : RmpEntry) (place : ℕ) (page : Page) → KindFits page.facts → IsUpdatable update first page.facts
     → IsUpdated asid update page.facts (updated_facts update first place page.facts) page.words (updated_words update first page.facts page.words)
 unfolding updated_facts updated_words
 is_updated asid update first place page fits may =
