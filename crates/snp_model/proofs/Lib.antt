@@ -92,7 +92,6 @@ pub mod SealingPages
 pub mod SealingTests
 pub mod SealedLaws
 pub mod SealedRuns
-pub mod SealedSteps
 pub mod ShapeLaws
 pub mod ShapedLaws
 pub mod ShapedSteps
