@@ -1,5 +1,5 @@
--- What an event of any item but a command that seals or opens a page does to the pages of a guest and to pages of 2 MB, PVALIDATE, RMPADJUST and the other commands among them, where the guest's memory lacks what the event makes held.
-use Rattle.std.proofs.Common.{◌≡◌, ℕ, ◌-◌, Bool, List, None}
+-- What an event of any item but a command that seals or opens a page does to the pages of a guest, PVALIDATE, RMPADJUST and the other commands among them, where the guest's memory lacks what the event makes held.
+use Rattle.std.proofs.Common.{◌≡◌, ℕ, Bool, List, None}
 use Rattle.snp_model.specs.declared.command.Command.{Command}
 use Rattle.snp_model.specs.declared.entry.PageSize.{PageSize}
 use Rattle.snp_model.specs.declared.item.Item.{Item}
@@ -10,21 +10,14 @@ use Rattle.snp_model.specs.declared.scenario.Role.{Role}
 use Rattle.snp_model.specs.declared.scenario.Role.TheVariants.{Cpu, Firmware}
 use Rattle.snp_model.specs.GuestMemory.{Memory, use_for}
 use Rattle.snp_model.specs.HeldLocks.{AreItemLocks}
-use Rattle.snp_model.specs.KeptLocks.{KeepsLocks}
 use Rattle.snp_model.specs.Live.{Archive}
-use Rattle.snp_model.specs.Locks.{view_of}
-use Rattle.snp_model.specs.OpenAttempts.{IsAttempt, IsWalking}
+use Rattle.snp_model.specs.OpenAttempts.{IsAttempt}
 use Rattle.snp_model.specs.Sealing.{sealing_of}
-use Rattle.snp_model.specs.State.{ActorPart, State, View, part_of}
-use Rattle.snp_model.specs.Step.{item_move, line_at, after}
+use Rattle.snp_model.specs.State.{ActorPart, View}
+use Rattle.snp_model.specs.Step.{item_move}
 use Rattle.snp_model.proofs.FirmwareUseLaws.{command_fine}
 use Rattle.snp_model.proofs.ItemUseLaws.{item_fine}
-use Rattle.snp_model.proofs.LargeCommands.{command_large}
-use Rattle.snp_model.proofs.LargeInstructions.{validate_large, adjust_large}
-use Rattle.snp_model.proofs.LargeItems.{LeavesLarge, item_large}
 use Rattle.snp_model.proofs.LargePages.{AreLargeWhole}
-use Rattle.snp_model.proofs.LockedLaws.{move_locks}
-use Rattle.snp_model.proofs.LockedMoves.{MoveLocks}
 use Rattle.snp_model.proofs.UseLaws.{RoleOwns, IsProved, Before, MoveFine}
 use Rattle.snp_model.proofs.ValidateUseLaws.{LacksAccepted, validate_fine, adjust_fine}
 
@@ -79,34 +72,3 @@ any_item_fine guest asid archive guests memory frames view part =
     (adjust_item guest asid archive guests memory frames view part)
     (command_item guest asid archive guests memory frames view part)
     (λ role item known before owns whole tested walking lacks. item_fine guest asid archive guests memory frames view part role item before owns known whole tested)
-
--- and to pages of 2 MB
-abbrev ItemLarge : State → ActorPart → Role → Item → Type 0
-ItemLarge m part role item =
-    AreItemLocks m.frames m.guests m.contents role item part.deeds part.standing → MoveLocks m part role item (item_move m.frames m.guests (view_of m) part role item) → AreLargeWhole m.contents.pages
-    → LeavesLarge (item_move m.frames m.guests (view_of m) part role item)
-
-validate_item_large : (m : State) (part : ActorPart) (owner vmpl npt : ℕ) (paging : Paging) (address : ℕ) (size : PageSize) (validate : Bool) → ItemLarge m part (Cpu owner vmpl npt paging) (items.Pvalidate address size validate)
-unfolding AreItemLocks item_move
-validate_item_large m part owner vmpl npt paging address size validate tested locks whole =
-    validate_large m.frames m.guests (view_of m) part (record { guest = owner; vmpl = vmpl; npt = npt; paging = paging }) address size validate tested.lock whole
-
-adjust_item_large : (m : State) (part : ActorPart) (owner vmpl npt : ℕ) (paging : Paging) (address : ℕ) (size : PageSize) (target mask : ℕ) (vmsa : Bool) → ItemLarge m part (Cpu owner vmpl npt paging) (items.Rmpadjust address size target mask vmsa)
-unfolding AreItemLocks item_move
-adjust_item_large m part owner vmpl npt paging address size target mask vmsa tested locks whole =
-    adjust_large m.frames m.guests (view_of m) part (record { guest = owner; vmpl = vmpl; npt = npt; paging = paging }) address size target mask vmsa tested.lock whole
-
-command_item_large : (m : State) (part : ActorPart) (command : Command) → sealing_of command ≡ None → ItemLarge m part Firmware (items.Firmware command)
-unfolding AreItemLocks item_move
-command_item_large m part command plain tested locks whole = command_large m.frames m.guests (view_of m) part command plain tested whole
-
-pub any_item_large : (m : State) (part : ActorPart) (role : Role) (item : Item) → IsNoSealing role item → ItemLarge m part role item
-any_item_large m part =
-    by_item (ItemLarge m part) (validate_item_large m part) (adjust_item_large m part) (command_item_large m part) (λ role item known tested locks whole. item_large m part role item known tested locks whole)
-
-pub any_step_large : (m : State) (actor : ℕ) → KeepsLocks m → IsWalking m.frames (part_of m actor) → IsNoSealing (part_of m actor).role (line_at (part_of m actor).script (part_of m actor).item).item
-    → AreLargeWhole m.contents.pages → AreLargeWhole (after m actor).contents.pages
-unfolding after
-any_step_large m actor keeps walking known whole =
-    let part = part_of m actor in
-    (any_item_large m part part.role (line_at part.script part.item).item known (keeps.tested (actor - 1)) (move_locks m actor keeps walking) whole).large

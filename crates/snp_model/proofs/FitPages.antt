@@ -25,8 +25,7 @@ use Rattle.snp_model.proofs.ChangeLaws.{IsPageOf}
 use Rattle.snp_model.proofs.CoreLaws.{with_word_facts}
 use Rattle.snp_model.proofs.EntryWords.{zeros_are_words}
 use Rattle.snp_model.proofs.FitFacts.{updated_fit, smashed_fit, validated_fit, adjusted_fit}
-use Rattle.snp_model.proofs.LargeItems.{same_facts_whole}
-use Rattle.snp_model.proofs.LargePages.{AreLargeWhole}
+use Rattle.snp_model.proofs.LargePages.{AreLargeWhole, same_facts_whole}
 use Rattle.snp_model.proofs.LockLaws.{small_covered, page_region}
 use Rattle.snp_model.proofs.OpeningParts.{set_fit}
 use Rattle.snp_model.proofs.TestedRanges.{are_updatable}

@@ -4,7 +4,7 @@ use Rattle.snp_model.specs.declared.scenario.Scenario.{Scenario}
 use Rattle.snp_model.specs.Premises.{AreLegal}
 use Rattle.snp_model.specs.Run.{IsDefined}
 use Rattle.snp_model.specs.Sound.{IsSound}
-use Rattle.snp_model.proofs.SealedRuns.{run_legal}
+use Rattle.snp_model.proofs.SealedRuns.{disciplined_lacks, lacking_guest_legal}
 
 pub guests_are_legal : (c : Scenario) (s : List ℕ) → IsSound c → IsDefined c s → AreLegal c s
-guests_are_legal c s sound defined guest some most disciplined chance = run_legal c s guest sound defined some most disciplined chance
+guests_are_legal c s sound defined guest some most disciplined chance = lacking_guest_legal c s guest sound defined some most (disciplined_lacks c s guest disciplined) chance

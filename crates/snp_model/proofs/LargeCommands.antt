@@ -1,5 +1,5 @@
--- Pages of 2 MB stay whole at every event of a command that seals nothing: only page_reclaim acts on one, and then on all of it.
-use Rattle.std.proofs.Common.{◌≡◌, ℕ, ◌+◌, ◌/◌, ◌*◌, ◌%◌, true, false, eqb, List, Option, Some, None, unwrap_or, Result, Ok, Err, refl, sym, ap, ◌∙◌, subst, arith}
+-- Pages of 2 MB stay whole at the commit of each command that seals nothing: only page_reclaim acts on one, and then on all of it.
+use Rattle.std.proofs.Common.{◌≡◌, ℕ, ◌+◌, ◌/◌, ◌*◌, ◌%◌, true, false, eqb, List, Option, Some, None, refl, sym, ap, ◌∙◌, subst, arith}
 use Rattle.std.proofs.lemmas.Bool.{cond-true, cond-false, eqb-true}
 use Rattle.std.proofs.lemmas.Option.{get_or_from_slice_get}
 use Rattle.snp_model.specs.declared.command.Command.{Command}
@@ -7,7 +7,6 @@ use Rattle.snp_model.specs.declared.command.Command.TheVariants as commands
 use Rattle.snp_model.specs.declared.entry.PageSize.{PageSize}
 use Rattle.snp_model.specs.declared.entry.PageSize.TheVariants.{Small, Large}
 use Rattle.snp_model.specs.declared.entry.RmpEntry.{RmpEntry}
-use Rattle.snp_model.specs.declared.event.FwRefusal.{FwRefusal}
 use Rattle.snp_model.specs.declared.firmware.PageState.{PageState}
 use Rattle.snp_model.specs.declared.firmware.PageState.TheVariants as states
 use Rattle.snp_model.specs.declared.firmware.Part.TheVariants.{Source, Target}
@@ -15,17 +14,15 @@ use Rattle.snp_model.specs.declared.scenario.GuestSpec.{GuestSpec}
 use Rattle.snp_model.specs.Facts.{page_base}
 use Rattle.snp_model.specs.Firmware.{pages_of}
 use Rattle.snp_model.specs.FirmwareCommits.{at_frame, context_facts, context_page, launched_facts, launched_page, metadata_facts, metadata_page, taken_facts, taken, placed, gpn_from_zero, reclaim_facts, given_back_facts, reclaimed_as, reclaimed_page}
-use Rattle.snp_model.specs.FirmwareStep.{context_taken, computed_move, nothing_made, first_lock, pages_moved, pages_after, commit_move, firmware_move}
-use Rattle.snp_model.specs.HeldLocks.{AreCommandLocks}
+use Rattle.snp_model.specs.FirmwareStep.{first_lock, pages_moved, pages_after}
 use Rattle.snp_model.specs.KeptLocks.{AreOfOneRegion}
 use Rattle.snp_model.specs.Locks.{over_lock, covers, page_lock}
 use Rattle.snp_model.specs.PageStates.{state_of}
 use Rattle.snp_model.specs.Sealing.{sealing_of}
 use Rattle.snp_model.specs.Shapes.{AreOfOnePage}
-use Rattle.snp_model.specs.State.{Page, Pages, PageLock, Contents, Computed, ActorPart, View}
-use Rattle.snp_model.proofs.CommandTests.{IsReady, has_lock, page_at, by_phase}
+use Rattle.snp_model.specs.State.{Page, Pages, PageLock, Contents, Computed, ActorPart}
+use Rattle.snp_model.proofs.CommandTests.{IsReady, has_lock, page_at}
 use Rattle.snp_model.proofs.FirmwareLocked.{reclaimed_as_size}
-use Rattle.snp_model.proofs.LargeItems.{LeavesLarge, lock_large}
 use Rattle.snp_model.proofs.LargePages.{AreLargeWhole, sizes_whole, base_region, one_page_same, small_changes_whole, IsUniform, CoversWhole, uniform_whole, beside_page}
 use Rattle.snp_model.proofs.LockLaws.{small_covered, page_region, region_page, page_whole}
 use Rattle.snp_model.proofs.LockedItems.{by_range}
@@ -233,25 +230,3 @@ commit_large frames guests contents part (commands.MdOut owner source target met
 commit_large frames guests contents part (commands.MdIn owner source target metadata entry) made plain ready whole = absurd (some_none _ plain)
 commit_large frames guests contents part (commands.MdRootOut owner source target) made plain ready whole = absurd (some_none _ plain)
 commit_large frames guests contents part (commands.MdRootIn owner source target) made plain ready whole = absurd (some_none _ plain)
-
--- the events before it change nothing, whatever the command is
-pub context_large : (contents : Contents) (part : ActorPart) (guest : ℕ) (refusal : Option FwRefusal) → AreLargeWhole contents.pages → LeavesLarge (context_taken contents part guest refusal)
-unfolding context_taken
-context_large contents part guest None whole = record { large = whole }
-context_large contents part guest (Some refusal) whole = record { large = whole }
-
-pub computed_large : (contents : Contents) (part : ActorPart) (made : Result Computed FwRefusal) → AreLargeWhole contents.pages → LeavesLarge (computed_move contents part made)
-unfolding computed_move
-computed_large contents part (Ok made) whole = record { large = whole }
-computed_large contents part (Err refusal) whole = record { large = whole }
-
-pub command_large : (frames : ℕ) (guests : List GuestSpec) (view : View) (part : ActorPart) (command : Command) → sealing_of command ≡ None → AreCommandLocks frames guests view.contents command part.standing
-    → AreLargeWhole view.contents.pages → LeavesLarge (firmware_move frames guests view part command)
-unfolding commit_move
-command_large frames guests view part command plain tested whole =
-    by_phase frames guests view part command LeavesLarge
-    (λ guest refusal. context_large view.contents part guest refusal whole)
-    (λ lock refusal. lock_large view.contents part lock refusal whole)
-    (λ made. computed_large view.contents part made whole)
-    (λ ready. record { large = commit_large frames guests view.contents part command (unwrap_or part.standing.computed nothing_made) plain ready whole })
-    tested

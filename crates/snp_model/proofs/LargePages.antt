@@ -70,6 +70,12 @@ small_changes_whole old new changed changes whole =
       aligned = λ f large. ap (λ (x : RmpEntry). x.gpn % 512) (other f (page_base Large f) large (base_region f)) ∙ whole.aligned f (before f large);
     }
 
+-- where no facts change
+pub same_facts_whole : (old new : Pages) → ((f : ℕ) → (new f).facts ≡ (old f).facts) → AreLargeWhole old → AreLargeWhole new
+same_facts_whole old new same whole =
+    small_changes_whole old new (λ _. false)
+    (record { same = λ f _. same f; was_small = λ f is. absurd (true≢false (sym is)); is_small = λ f is. absurd (true≢false (sym is)) }) whole
+
 -- where the facts of each frame of whole pages change in the same way, and their guest page numbers and sizes stay
 pub record IsUniform (change : RmpEntry → RmpEntry) : Type 0 where
   pub gpn : (x : RmpEntry) → (change x).gpn ≡ x.gpn

@@ -7,6 +7,7 @@ pub mod CipherLaws
 pub mod CommandLaws
 pub mod CommandStages
 pub mod CommandTests
+pub mod CompleteLaws
 pub mod ContextLaws
 pub mod CoreLaws
 pub mod DisciplineLaws
@@ -35,8 +36,6 @@ pub mod JournalsLaws
 pub mod KeptCommits
 pub mod KeptSeals
 pub mod LargeCommands
-pub mod LargeInstructions
-pub mod LargeItems
 pub mod LargePages
 pub mod LaunchUseLaws
 pub mod LineLaws

@@ -16,12 +16,14 @@ use Rattle.snp_model.specs.Shapes.{AreFactsOf, AreShaped}
 use Rattle.snp_model.specs.Sound.{IsSound}
 use Rattle.snp_model.specs.State.{State}
 use Rattle.snp_model.specs.Step.{after}
-use Rattle.snp_model.specs.UniqueRuns.{HasOnePlace, IsOneHolder, MeetsPremises, Passes, vault_after}
+use Rattle.snp_model.specs.UniqueRuns.{HasAllLive, HasOnePlace, IsOneHolder, MeetsPremises, Passes, vault_after}
+use Rattle.snp_model.proofs.CompleteLaws.{all_listed}
 use Rattle.snp_model.proofs.InOrder.{IsInOrder}
+use Rattle.snp_model.proofs.ListedLaws.{lives}
 use Rattle.snp_model.proofs.LockedRuns.{IsMetadataFirm, are_locked}
 use Rattle.snp_model.proofs.PassingLaws.{passed_held}
 use Rattle.snp_model.proofs.RunLaws.{after_guests}
-use Rattle.snp_model.proofs.SealedRuns.{Holding, run_order, run_holding}
+use Rattle.snp_model.proofs.SealedRuns.{Holding, disciplined_lacks, run_order, run_holding}
 use Rattle.snp_model.proofs.SingleLaws.{lists_single}
 
 -- a metadata page is assigned and immutable
@@ -53,7 +55,7 @@ guests_after c s = guests_from (opening c) s
 
 -- all seven parts
 holding_after : (c : Scenario) (s : List ℕ) (guest : ℕ) → MeetsPremises c s guest → Holding guest (state_after c s) (past_of c s) (memory_after c s guest)
-holding_after c s guest meets = run_holding c s guest meets.sound meets.defined meets.some meets.most meets.disciplined meets.no_chance
+holding_after c s guest meets = run_holding c s guest meets.sound meets.defined meets.some meets.most (disciplined_lacks c s guest meets.disciplined) meets.no_chance
 
 pub run_is_unique : (c : Scenario) (s : List ℕ) (guest : ℕ) → MeetsPremises c s guest → IsUnique guest (state_after c s) (past_of c s) (memory_after c s guest)
 run_is_unique c s guest meets =
@@ -75,6 +77,17 @@ pub run_unique : (c : Scenario) (s : List ℕ) (guest : ℕ) → MeetsPremises c
 run_unique c s guest meets =
     subst (λ (guests : List GuestSpec). IsUniqueFor guest (state_after c s) (past_of c s) (memory_after c s guest) (asid_of guests guest) (vault_after c s guest)) (guests_after c s)
     (run_is_unique c s guest meets)
+
+-- the list of live entries has them all
+pub run_listed : (c : Scenario) (s : List ℕ) (guest : ℕ) → MeetsPremises c s guest → HasAllLive (asid_of c.guests guest) (vault_after c s guest) (state_after c s).frames
+run_listed c s guest meets =
+    let m = state_after c s in
+    let holding = holding_after c s guest meets in
+    subst (λ (guests : List GuestSpec). HasAllLive (asid_of guests guest) (vault_after c s guest) m.frames) (guests_after c s)
+    (record {
+      lives = lives (asid_of m.guests guest) (vault_after c s guest) m.frames holding.ties.seals;
+      listed = all_listed (asid_of m.guests guest) (vault_after c s guest) m.frames holding.ties.seals holding.order.shapes.words;
+    })
 
 -- two holders of one page are one
 pub run_one_place : (c : Scenario) (s : List ℕ) (guest : ℕ) → MeetsPremises c s guest → HasOnePlace (asid_of c.guests guest) (vault_after c s guest)

@@ -1,4 +1,4 @@
--- Every run of a sound scenario keeps its states in order; and where a declared guest is disciplined in it and no ciphertext meets the tag of another, what ties the guest's pages to their holders holds in each state, and its private accesses are one legal history.
+-- Every run of a sound scenario keeps its states in order; and where a declared guest lacks what each event makes held, as one that is disciplined does, and no ciphertext meets the tag of another, what ties the guest's pages to their holders holds in each state, and its private accesses are one legal history.
 use Rattle.std.proofs.Common.{◌≡◌, ℕ, ◌<◌, ◌≤◌, List, [], ◌∷◌, length, sym, ap, subst}
 use Rattle.snp_model.specs.declared.scenario.GuestSpec.{GuestSpec}
 use Rattle.snp_model.specs.declared.scenario.Scenario.{Scenario}
@@ -6,18 +6,20 @@ use Rattle.snp_model.specs.GuestMemory.{Memory, next_use, used, opening_memory, 
 use Rattle.snp_model.specs.MadePages.{AreMade}
 use Rattle.snp_model.specs.Opening.{opening}
 use Rattle.snp_model.specs.Past.{Past, empty_past, past_after, past_from, past_of}
-use Rattle.snp_model.specs.Premises.{IsDisciplinedStep, IsDisciplinedFrom, IsDisciplined, NoChanceStep, NoChanceFrom, NoChanceTag}
+use Rattle.snp_model.specs.Premises.{IsDisciplinedFrom, IsDisciplined, NoChanceStep, NoChanceFrom, NoChanceTag}
 use Rattle.snp_model.specs.Run.{state_from, state_after, IsDefinedFrom, IsDefined}
 use Rattle.snp_model.specs.Sound.{IsSound}
 use Rattle.snp_model.specs.State.{State, IsUnfinished}
 use Rattle.snp_model.specs.Step.{after}
+use Rattle.snp_model.proofs.DisciplineLaws.{next_lacks}
 use Rattle.snp_model.proofs.InOrder.{IsInOrder}
 use Rattle.snp_model.proofs.MadeSteps.{each_made}
 use Rattle.snp_model.proofs.OpeningInvariant.{opening_ties}
 use Rattle.snp_model.proofs.OpeningOrder.{opening_order}
 use Rattle.snp_model.proofs.OpeningParts.{opening_made}
 use Rattle.snp_model.proofs.RunLaws.{after_guests}
-use Rattle.snp_model.proofs.SealedSteps.{TiesAt, each_order, each_ties, each_legal}
+use Rattle.snp_model.proofs.SealedSteps.{TiesAt, each_order, next_done}
+use Rattle.snp_model.proofs.ValidateUseLaws.{LacksAccepted}
 
 -- a run from a state in order
 order_from : (m : State) (s : List ℕ) → IsDefinedFrom m s → IsInOrder m → IsInOrder (state_from m s)
@@ -35,32 +37,49 @@ pub record Holding (g : ℕ) (m : State) (past : Past) (memory : Memory) : Type 
   pub made : AreMade g m past
   pub ties : TiesAt g m past memory
 
+-- what is asked of it: no event makes a page held that the guest holds already; so each PVALIDATE of the guest's that answers carry flag 0 names pages that it lacks, as each launch for it does, and where the flag is 1 nothing is asked
+unfoldable pub IsLackingFrom : ℕ → State → Memory → List ℕ → Type 0
+IsLackingFrom guest m memory [] = Unit {0}
+IsLackingFrom guest m memory (actor ∷ actors) = LacksAccepted memory (next_use guest m actor) × IsLackingFrom guest (after m actor) (used (next_use guest m actor) memory) actors
+
+abbrev pub IsLacking : Scenario → List ℕ → ℕ → Type 0
+IsLacking scenario schedule guest = IsLackingFrom guest (opening scenario) (opening_memory scenario guest) schedule
+
+-- a disciplined guest's run is such
+disciplined_from : (g : ℕ) (m : State) (memory : Memory) (s : List ℕ) → IsDisciplinedFrom g m memory s → IsLackingFrom g m memory s
+unfolding IsDisciplinedFrom IsLackingFrom
+disciplined_from g m memory [] disciplined = tt
+disciplined_from g m memory (a ∷ s) disciplined = (next_lacks g m a memory disciplined.0, disciplined_from g (after m a) (used (next_use g m a) memory) s disciplined.1)
+
+pub disciplined_lacks : (c : Scenario) (s : List ℕ) (g : ℕ) → IsDisciplined c s g → IsLacking c s g
+disciplined_lacks c s g disciplined = disciplined_from g (opening c) (opening_memory c g) s disciplined
+
 -- one event keeps it
-holding_step : (g : ℕ) (m : State) (past : Past) (memory : Memory) (a : ℕ) → 0 < g → IsUnfinished m a → IsDisciplinedStep g m a memory → NoChanceStep g m a past → Holding g m past memory
+holding_step : (g : ℕ) (m : State) (past : Past) (memory : Memory) (a : ℕ) → 0 < g → IsUnfinished m a → LacksAccepted memory (next_use g m a) → NoChanceStep g m a past → Holding g m past memory
     → Holding g (after m a) (past_after m a past) (used (next_use g m a) memory)
-holding_step g m past memory a some unfinished disciplined chance holding = record {
+holding_step g m past memory a some unfinished lacks chance holding = record {
   most = subst (λ (guests : List GuestSpec). g ≤ length guests) (sym (after_guests m a)) holding.most;
   order = each_order m a unfinished holding.order;
   made = each_made g m a past memory some holding.most unfinished holding.order chance holding.ties holding.made;
-  ties = each_ties g m a past memory some holding.most unfinished holding.order holding.made disciplined holding.ties;
+  ties = (next_done g m a past memory some holding.most unfinished holding.order holding.made lacks holding.ties).0;
 }
 
 -- and a schedule
-holding_from : (g : ℕ) (m : State) (past : Past) (memory : Memory) (s : List ℕ) → 0 < g → IsDefinedFrom m s → IsDisciplinedFrom g m memory s → NoChanceFrom g m past s → Holding g m past memory
+holding_from : (g : ℕ) (m : State) (past : Past) (memory : Memory) (s : List ℕ) → 0 < g → IsDefinedFrom m s → IsLackingFrom g m memory s → NoChanceFrom g m past s → Holding g m past memory
     → Holding g (state_from m s) (past_from m past s) (memory_from g m memory s)
-unfolding state_from past_from memory_from IsDefinedFrom IsDisciplinedFrom NoChanceFrom
-holding_from g m past memory [] some defined disciplined chance holding = holding
-holding_from g m past memory (a ∷ s) some defined disciplined chance holding =
-    holding_from g (after m a) (past_after m a past) (used (next_use g m a) memory) s some defined.1 disciplined.1 chance.1
-    (holding_step g m past memory a some defined.0 disciplined.0 chance.0 holding)
+unfolding state_from past_from memory_from IsDefinedFrom IsLackingFrom NoChanceFrom
+holding_from g m past memory [] some defined lacks chance holding = holding
+holding_from g m past memory (a ∷ s) some defined lacks chance holding =
+    holding_from g (after m a) (past_after m a past) (used (next_use g m a) memory) s some defined.1 lacks.1 chance.1
+    (holding_step g m past memory a some defined.0 lacks.0 chance.0 holding)
 
-legal_from : (g : ℕ) (m : State) (past : Past) (memory : Memory) (s : List ℕ) → 0 < g → IsDefinedFrom m s → IsDisciplinedFrom g m memory s → NoChanceFrom g m past s → Holding g m past memory → IsLegalFrom g m memory s
-unfolding IsLegalFrom IsDefinedFrom IsDisciplinedFrom NoChanceFrom
-legal_from g m past memory [] some defined disciplined chance holding = tt
-legal_from g m past memory (a ∷ s) some defined disciplined chance holding = (
-  each_legal g m a past memory some holding.most defined.0 holding.order holding.made disciplined.0 holding.ties,
-  legal_from g (after m a) (past_after m a past) (used (next_use g m a) memory) s some defined.1 disciplined.1 chance.1
-      (holding_step g m past memory a some defined.0 disciplined.0 chance.0 holding),
+legal_from : (g : ℕ) (m : State) (past : Past) (memory : Memory) (s : List ℕ) → 0 < g → IsDefinedFrom m s → IsLackingFrom g m memory s → NoChanceFrom g m past s → Holding g m past memory → IsLegalFrom g m memory s
+unfolding IsLegalFrom IsDefinedFrom IsLackingFrom NoChanceFrom
+legal_from g m past memory [] some defined lacks chance holding = tt
+legal_from g m past memory (a ∷ s) some defined lacks chance holding = (
+  (next_done g m a past memory some holding.most defined.0 holding.order holding.made lacks.0 holding.ties).1,
+  legal_from g (after m a) (past_after m a past) (used (next_use g m a) memory) s some defined.1 lacks.1 chance.1
+      (holding_step g m past memory a some defined.0 lacks.0 chance.0 holding),
 )
 
 -- from the opening
@@ -76,11 +95,11 @@ opening_holding c g sound some most = record {
   ties = opening_ties c g empty_past sound some most;
 }
 
-pub run_holding : (c : Scenario) (s : List ℕ) (g : ℕ) → IsSound c → IsDefined c s → 0 < g → g ≤ length c.guests → IsDisciplined c s g → NoChanceTag c s g
+pub run_holding : (c : Scenario) (s : List ℕ) (g : ℕ) → IsSound c → IsDefined c s → 0 < g → g ≤ length c.guests → IsLacking c s g → NoChanceTag c s g
     → Holding g (state_after c s) (past_of c s) (memory_after c s g)
-run_holding c s g sound defined some most disciplined chance =
-    holding_from g (opening c) empty_past (opening_memory c g) s some defined disciplined chance (opening_holding c g sound some most)
+run_holding c s g sound defined some most lacks chance =
+    holding_from g (opening c) empty_past (opening_memory c g) s some defined lacks chance (opening_holding c g sound some most)
 
-pub run_legal : (c : Scenario) (s : List ℕ) (g : ℕ) → IsSound c → IsDefined c s → 0 < g → g ≤ length c.guests → IsDisciplined c s g → NoChanceTag c s g → IsLegal c s g
-run_legal c s g sound defined some most disciplined chance =
-    legal_from g (opening c) empty_past (opening_memory c g) s some defined disciplined chance (opening_holding c g sound some most)
+pub lacking_guest_legal : (c : Scenario) (s : List ℕ) (g : ℕ) → IsSound c → IsDefined c s → 0 < g → g ≤ length c.guests → IsLacking c s g → NoChanceTag c s g → IsLegal c s g
+lacking_guest_legal c s g sound defined some most lacks chance =
+    legal_from g (opening c) empty_past (opening_memory c g) s some defined lacks chance (opening_holding c g sound some most)

@@ -158,7 +158,7 @@ each_seals g m actor past memory some most unfinished order made ties =
     seals_done g m actor past memory part part.role (line_at part.script part.item).item (ground_of g m actor past memory some most unfinished order made ties)
 
 -- parts 2 to 4, for the core and the seals at once; and the event finds in the guest's memory what it needs
-next_done : (g : ℕ) (m : State) (actor : ℕ) (past : Past) (memory : Memory) → 0 < g → g ≤ length m.guests → IsUnfinished m actor → IsInOrder m → AreMade g m past → LacksAccepted memory (next_use g m actor)
+pub next_done : (g : ℕ) (m : State) (actor : ℕ) (past : Past) (memory : Memory) → 0 < g → g ≤ length m.guests → IsUnfinished m actor → IsInOrder m → AreMade g m past → LacksAccepted memory (next_use g m actor)
     → TiesAt g m past memory → TiesAt g (after m actor) (past_after m actor past) (used (next_use g m actor) memory) × IsLegalUse memory (next_use g m actor)
 unfolding after past_after next_use event_of
 next_done g m actor past memory some most unfinished order made lacks ties =

@@ -1,14 +1,16 @@
 -- The runs in which each page of a guest has one holder at most, and the private accesses that pass in them (this project's own; the checks are those of APM volume 2, 15.36.10).
-use Rattle.std.specs.Prelude.{◌≡◌, ℕ, ◌<◌, ◌≤◌, true, List, length, Option, Some}
+use Rattle.std.specs.Prelude.{◌≡◌, ◌⊎◌, ℕ, ◌<◌, ◌≤◌, true, List, [], ◌∷◌, length, Option, Some}
+use Rattle.std.specs.List.{AllByRecursion}
 use Rattle.snp_model.specs.declared.event.Deed.{Deed}
 use Rattle.snp_model.specs.declared.event.Deed.TheVariants as deeds
 use Rattle.snp_model.specs.declared.event.Outcome.{Outcome}
 use Rattle.snp_model.specs.declared.event.Outcome.TheVariants as outcomes
+use Rattle.snp_model.specs.declared.firmware.MetaEntry.{MetaEntry}
 use Rattle.snp_model.specs.declared.scenario.Role.{Role}
 use Rattle.snp_model.specs.declared.scenario.Role.TheVariants.{Cpu}
 use Rattle.snp_model.specs.declared.scenario.Scenario.{Scenario}
 use Rattle.snp_model.specs.Holders.{Holder, Holds}
-use Rattle.snp_model.specs.Live.{Vault, vault_of}
+use Rattle.snp_model.specs.Live.{Vault, vault_of, Spot, InEntry, InRoot, Under, Live, IsLive, live}
 use Rattle.snp_model.specs.Past.{archive_of}
 use Rattle.snp_model.specs.Premises.{IsDisciplined, NoChanceTag}
 use Rattle.snp_model.specs.Run.{IsDefined, state_after}
@@ -28,6 +30,22 @@ pub record MeetsPremises (scenario : Scenario) (schedule : List ℕ) (guest : �
 -- all that tells the guest's live entries at its end
 abbrev pub vault_after : Scenario → List ℕ → ℕ → Vault
 vault_after scenario schedule guest = vault_of guest (state_after scenario schedule).contents (archive_of scenario schedule guest)
+
+-- an element stands in a list
+unfoldable pub IsListed : Live → List Live → Type 0
+IsListed one [] = ⊥
+IsListed one (first ∷ others) = (one ≡ first) ⊎ IsListed one others
+
+-- a place is in a memory of so many frames or in the context, or in what an entry at such a place keeps
+unfoldable pub IsInMemory : ℕ → Spot → Type 0
+IsInMemory frames (InEntry frame number) = frame < frames
+IsInMemory frames InRoot = Unit {0}
+IsInMemory frames (Under above number) = IsInMemory frames above
+
+-- the list of live entries has just the entries that are live, and each that is live at a place in memory
+pub record HasAllLive (asid : ℕ) (vault : Vault) (frames : ℕ) : Type 0 where
+  pub lives : AllByRecursion (λ (one : Live). IsLive asid vault one.spot one.entry) (live asid vault frames)
+  pub listed : (spot : Spot) (entry : MetaEntry) → IsInMemory frames spot → IsLive asid vault spot entry → IsListed (record { spot = spot; entry = entry }) (live asid vault frames)
 
 -- each page has one place at most at which it is held
 abbrev pub HasOnePlace : ℕ → Vault → Type 0

@@ -12,7 +12,7 @@ ghost use Rattle.snp_model.specs.Run.{IsDefined, state_after};
 ghost use Rattle.snp_model.specs.Shapes.{AreShaped};
 ghost use Rattle.snp_model.specs.Sound.{IsSound};
 ghost use Rattle.snp_model.specs.State.{State};
-ghost use Rattle.snp_model.specs.UniqueRuns.{HasOnePlace, IsOneHolder, MeetsPremises, Passes, vault_after};
+ghost use Rattle.snp_model.specs.UniqueRuns.{HasAllLive, HasOnePlace, IsOneHolder, MeetsPremises, Passes, vault_after};
 ghost use Rattle.snp_model.specs.Uniqueness.{IsSingle, Seals};
 
 /// What ties a guest's pages to their holders in every run of a sound scenario. It does nothing.
@@ -24,7 +24,11 @@ pub fn uniqueness_laws()
     ensures single { (scenario : Scenario) (schedule : List ℕ) (guest : ℕ) → MeetsPremises scenario schedule guest
         → IsSingle (asid_of scenario.guests guest) (vault_after scenario schedule guest) (state_after scenario schedule).frames }
 
-    // So two holders of one page are one: by the places of live entries, which the lists have in their order.
+    // The list of live entries has just those that are live, and each that is live at a place in memory.
+    ensures listed { (scenario : Scenario) (schedule : List ℕ) (guest : ℕ) → MeetsPremises scenario schedule guest
+        → HasAllLive (asid_of scenario.guests guest) (vault_after scenario schedule guest) (state_after scenario schedule).frames }
+
+    // Two holders of one page are one, by their places.
     ensures one_place { (scenario : Scenario) (schedule : List ℕ) (guest : ℕ) → MeetsPremises scenario schedule guest
         → HasOnePlace (asid_of scenario.guests guest) (vault_after scenario schedule guest) }
 

@@ -1,9 +1,12 @@
 use Rattle.snp_model.proofs.GuestMemoryLaws.{guests_are_legal}
-use Rattle.snp_model.proofs.SealedLaws.{run_is_unique, run_locked, run_one_place, run_passes, run_shaped, run_unique}
+use Rattle.snp_model.proofs.SealedLaws.{run_is_unique, run_listed, run_locked, run_one_place, run_passes, run_shaped, run_unique}
 use Rattle.snp_model.proofs.uniqueness.uniqueness_laws.Goals as goal
 
 pub returns-clause-single : goal.returns-clause-single
 returns-clause-single c = λ scenario schedule guest meets. (run_unique scenario schedule guest meets).single
+
+pub returns-clause-listed : goal.returns-clause-listed
+returns-clause-listed c = run_listed
 
 pub returns-clause-one_place : goal.returns-clause-one_place
 returns-clause-one_place c = run_one_place
