@@ -31,13 +31,12 @@ use Rattle.snp_model.specs.Moves.{Move, Arrival, is_running, quiet_move, begin_m
 use Rattle.snp_model.specs.Opening.{asid_of}
 use Rattle.snp_model.specs.Operands.{AreWordsOf, AreCommandOperands, AreOperands}
 use Rattle.snp_model.specs.RmpUpdate.{pages_updated, pages_smashed}
-use Rattle.snp_model.specs.Sealing.{Sealing, sealing_of, compute_of}
+use Rattle.snp_model.specs.Sealing.{Sealing, compute_of}
 use Rattle.snp_model.specs.State.{PageLock, Context, Contents, Computed, ActorPart, View, word_of}
 use Rattle.snp_model.specs.Step.{pages_after, access_move, data_place, data_move, host_access, item_move}
 use Rattle.snp_model.specs.Validation.{pages_validated, pages_adjusted}
 use Rattle.snp_model.specs.Walking.{Processor, lookup_of, index_of, need_after}
 use Rattle.snp_model.proofs.CommandStages.{IsCommitting, by_stage}
-use Rattle.snp_model.proofs.CommandTests.{IsReady}
 use Rattle.snp_model.proofs.SealingCommits.{contents_after}
 use Rattle.snp_model.proofs.TestedPages.{validate_passes}
 use Rattle.snp_model.proofs.UseLaws.{pass_mutable, shared_holds_none, host_holds_none}

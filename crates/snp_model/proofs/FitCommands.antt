@@ -1,22 +1,19 @@
--- The commit of each command keeps frames, pages of 2 MB, contexts and roots in order, and what a compute makes fits.
-use Rattle.std.proofs.Common.{◌≡◌, ◌≢◌, ◌⊎◌, inl, inr, ⊎_elim, ℕ, ◌+◌, ◌%◌, ◌^◌, ◌<◌, ◌≤◌, eqb, IfSome, List, length, Option, Some, None, slice_get, unwrap_or, refl, sym, ap, ◌∙◌, subst, arith}
-use Rattle.std.proofs.lemmas.Bool.{cond_both, cases_lt, eqb-true, eqb-false}
+-- The commit of each command keeps frames and pages of 2 MB in order.
+use Rattle.std.proofs.Common.{◌≡◌, ◌⊎◌, inl, inr, ⊎_elim, ℕ, ◌%◌, ◌<◌, eqb, IfSome, List, Option, Some, None, unwrap_or, refl, sym, ap, ◌∙◌, arith}
+use Rattle.std.proofs.lemmas.Bool.{cond_both}
 use Rattle.snp_model.specs.declared.command.Command.{Command}
 use Rattle.snp_model.specs.declared.command.Command.TheVariants as commands
 use Rattle.snp_model.specs.declared.entry.PageSize.TheVariants.{Small, Large}
 use Rattle.snp_model.specs.declared.entry.RmpEntry.{RmpEntry}
-use Rattle.snp_model.specs.declared.event.FwRefusal.TheVariants as refusals
 use Rattle.snp_model.specs.declared.firmware.MetaEntry.{MetaEntry}
 use Rattle.snp_model.specs.declared.firmware.PageState.{PageState}
 use Rattle.snp_model.specs.declared.firmware.PageState.TheVariants as states
 use Rattle.snp_model.specs.declared.firmware.Part.TheVariants.{Source, Target}
 use Rattle.snp_model.specs.declared.scenario.GuestSpec.{GuestSpec}
 use Rattle.snp_model.specs.Facts.{page_base}
-use Rattle.snp_model.specs.Firmware.{guest_of, pages_of, entry_of, has_equal_frames, aead_oflow, invalid_param, invalid_guest_state}
-use Rattle.snp_model.specs.FirmwareCommits.{at_guest, context_page, launched_words, launched_page, metadata_page, reclaim_facts, taken, placed, reclaimed_as, reclaimed_page, restored_facts, metadata_facts, metadata_out_facts, context_after, launched_into, root_after, at_frame}
-use Rattle.snp_model.specs.FirmwareLocks.{guest_refusal, takes_context, last_counter, counter_refusal, root_out_refusal, context_extra, context_refusal}
-use Rattle.snp_model.specs.FirmwareStep.{nothing_made, first_lock, pages_moved, pages_after, context_committed, contexts_after}
-use Rattle.snp_model.specs.HeldLocks.{AreCommandLocks}
+use Rattle.snp_model.specs.Firmware.{guest_of, pages_of, entry_of}
+use Rattle.snp_model.specs.FirmwareCommits.{context_page, launched_words, launched_page, metadata_page, reclaim_facts, taken, placed, reclaimed_as, reclaimed_page, restored_facts, metadata_facts, metadata_out_facts, at_frame}
+use Rattle.snp_model.specs.FirmwareStep.{command_asid, nothing_made, first_lock, pages_moved, pages_after}
 use Rattle.snp_model.specs.KeptLocks.{AreOfOneRegion}
 use Rattle.snp_model.specs.Locks.{over_lock}
 use Rattle.snp_model.specs.Metadata.{IsMetaEntry}
@@ -24,10 +21,9 @@ use Rattle.snp_model.specs.Opening.{asid_of}
 use Rattle.snp_model.specs.Operands.{AreCommandOperands}
 use Rattle.snp_model.specs.PageStates.{state_of, allowed, is_pre_guest, is_pre_swap}
 use Rattle.snp_model.specs.Sealing.{What, GuestPage, MetadataPage, Slot, OfEntry, OfRoot, Sealing, sealing_of, given_up, brought_back, no_entry, pages_out, pages_in}
-use Rattle.snp_model.specs.Shapes.{IsContextFor}
-use Rattle.snp_model.specs.State.{Page, Pages, PageLock, Context, Contexts, Contents, Computed, Standing, ActorPart, zero_words}
+use Rattle.snp_model.specs.State.{Page, Pages, PageLock, Contents, Computed, Standing, ActorPart, zero_words}
 use Rattle.snp_model.specs.Uniqueness.{IsFull}
-use Rattle.snp_model.proofs.CommandStages.{HasMade, IsCommitting, all_locked}
+use Rattle.snp_model.proofs.CommandStages.{HasMade, all_locked}
 use Rattle.snp_model.proofs.CommandTests.{IsReady, page_at}
 use Rattle.snp_model.proofs.EntryWords.{entry_set_full}
 use Rattle.snp_model.proofs.FitFacts.{context_fit, metadata_fit, metadata_out_fit, launched_fit, taken_fit, restored_fit, reclaim_fit, given_back_fit}
@@ -36,12 +32,11 @@ use Rattle.snp_model.proofs.InOrder.{IsFitMade}
 use Rattle.snp_model.proofs.KeptCommits.{Passing}
 use Rattle.snp_model.proofs.LargeCommands.{commit_large}
 use Rattle.snp_model.proofs.LargePages.{AreLargeWhole, sizes_whole, base_region, one_page_same}
-use Rattle.snp_model.proofs.LockLaws.{others_none, small_not_large}
+use Rattle.snp_model.proofs.LockLaws.{small_not_large}
 use Rattle.snp_model.proofs.PageBytesLaws.{are_zeros}
 use Rattle.snp_model.proofs.SealingPages.{IfEntry, at_each, table_page, out_each, in_each}
-use Rattle.snp_model.proofs.SealingTests.{IsSealable, IsOpenable, IsTable, OutTests, InTests, locked_page, sealing_tests}
+use Rattle.snp_model.proofs.SealingTests.{IsSealable, IsOpenable, IsTable, OutTests, InTests, SealingTests, locked_page, sealing_tests}
 use Rattle.snp_model.proofs.StateFacts.{firmware_facts, pre_guest_facts, pre_swap_facts}
-use Rattle.snp_model.proofs.TestedLaws.{let_through}
 use Rattle.snp_model.proofs.UpdateLaws.{over_frames}
 
 -- a command that seals or opens a page commits one that fits
@@ -130,37 +125,46 @@ launched_full page_type words full = cond_both (eqb page_type 3) zero_words word
 one_fit : (frame : ℕ) (page : Page) (pages : Pages) → IsFitPage page → AreFitPages pages → AreFitPages (at_frame frame page pages)
 one_fit frame page pages is fit = at_each (λ (f : ℕ) (new : Page). IsFitPage new) frame page pages is (λ f _. fit f)
 
+-- what the locks of an attempt that has taken all have tested: of its pages, and of what it seals or opens
+ready_passes : (frames : ℕ) (guests : List GuestSpec) (contents : Contents) (command : Command) (standing : Standing) → IsReady frames guests contents command standing → Passing (command_asid guests command) contents command
+ready_passes frames guests contents command standing ready = locked_page frames guests contents command standing ready.tested (all_locked frames guests contents command standing ready)
+
+ready_tests : (frames : ℕ) (guests : List GuestSpec) (contents : Contents) (command : Command) (standing : Standing) (guest : ℕ) → IsReady frames guests contents command standing → guest_of command ≡ Some guest
+    → IfSome (entry_of command) (λ (n : ℕ). n < 64) → SealingTests (command_asid guests command) contents.pages (sealing_of command)
+ready_tests frames guests contents command standing guest ready is below =
+    sealing_tests frames guests contents command standing guest ready.tested (ready.held guest is) (all_locked frames guests contents command standing ready) below
+
 -- frames after the commit of each command
 pub commit_fit : (frames : ℕ) (guests : List GuestSpec) (contents : Contents) (command : Command) (standing : Standing) (made : Computed) → AreCommandOperands command → IsReady frames guests contents command standing
     → FitIfSealed (sealing_of command) made → AreFitPages contents.pages → AreFitPages (pages_after command standing.locks made contents.pages)
 unfolding sealing_of guest_of pages_of entry_of pages_after allowed
 commit_fit frames guests contents (commands.GctxCreate guest frame) standing made operands ready is fit =
-    let firm = firmware_facts (contents.pages frame).facts (locked_page frames guests contents (commands.GctxCreate guest frame) standing ready.tested (all_locked frames guests contents (commands.GctxCreate guest frame) standing ready) 0 (record { part = Target; frame = frame }) refl).allows in
+    let firm = firmware_facts (contents.pages frame).facts (ready_passes frames guests contents (commands.GctxCreate guest frame) standing ready 0 (record { part = Target; frame = frame }) refl).allows in
     one_fit frame (context_page (contents.pages frame)) contents.pages (record { facts = context_fit (contents.pages frame).facts firm (fit frame).facts; words = (fit frame).words }) fit
 commit_fit frames guests contents (commands.Activate guest asid) standing made operands ready is fit = fit
 commit_fit frames guests contents (commands.LaunchStart guest) standing made operands ready is fit = fit
 commit_fit frames guests contents (commands.LaunchUpdate guest frame page_type imi perms) standing made operands ready is fit =
-    let pre = pre_guest_facts (contents.pages frame).facts (locked_page frames guests contents (commands.LaunchUpdate guest frame page_type imi perms) standing ready.tested (all_locked frames guests contents (commands.LaunchUpdate guest frame page_type imi perms) standing ready) 0 (record { part = Target; frame = frame }) refl).allows in
+    let pre = pre_guest_facts (contents.pages frame).facts (ready_passes frames guests contents (commands.LaunchUpdate guest frame page_type imi perms) standing ready 0 (record { part = Target; frame = frame }) refl).allows in
     one_fit frame (launched_page page_type perms (contents.pages frame)) contents.pages
     (record { facts = launched_fit perms (contents.pages frame).facts operands pre.kept_from (fit frame).facts; words = launched_full page_type (contents.pages frame).words (fit frame).words }) fit
 commit_fit frames guests contents (commands.LaunchFinish guest) standing made operands ready is fit = fit
 commit_fit frames guests contents (commands.MdInit frame) standing made operands ready is fit =
-    let firm = firmware_facts (contents.pages frame).facts (locked_page frames guests contents (commands.MdInit frame) standing ready.tested (all_locked frames guests contents (commands.MdInit frame) standing ready) 0 (record { part = Target; frame = frame }) refl).allows in
+    let firm = firmware_facts (contents.pages frame).facts (ready_passes frames guests contents (commands.MdInit frame) standing ready 0 (record { part = Target; frame = frame }) refl).allows in
     one_fit frame (metadata_page (contents.pages frame)) contents.pages (record { facts = metadata_fit (contents.pages frame).facts firm (fit frame).facts; words = zeros_full }) fit
 commit_fit frames guests contents (commands.PageMove guest source target) standing made operands ready is fit = moved_fit source target contents.pages fit
 commit_fit frames guests contents (commands.SwapOut guest source target metadata entry) standing made operands ready is fit =
-    out_fit (asid_of guests guest) GuestPage source target (OfEntry metadata entry) made contents.pages (sealing_tests frames guests contents (commands.SwapOut guest source target metadata entry) standing guest ready.tested (ready.held guest refl) (all_locked frames guests contents (commands.SwapOut guest source target metadata entry) standing ready) operands) is fit
+    out_fit (asid_of guests guest) GuestPage source target (OfEntry metadata entry) made contents.pages (ready_tests frames guests contents (commands.SwapOut guest source target metadata entry) standing guest ready refl operands) is fit
 commit_fit frames guests contents (commands.SwapIn guest source target metadata entry) standing made operands ready is fit =
-    in_fit (asid_of guests guest) GuestPage source target (OfEntry metadata entry) made contents.pages (sealing_tests frames guests contents (commands.SwapIn guest source target metadata entry) standing guest ready.tested (ready.held guest refl) (all_locked frames guests contents (commands.SwapIn guest source target metadata entry) standing ready) operands) is fit
+    in_fit (asid_of guests guest) GuestPage source target (OfEntry metadata entry) made contents.pages (ready_tests frames guests contents (commands.SwapIn guest source target metadata entry) standing guest ready refl operands) is fit
 commit_fit frames guests contents (commands.Reclaim frame) standing made operands ready is fit = reclaimed_fit (first_lock standing.locks frame) contents.pages fit
 commit_fit frames guests contents (commands.MdOut guest source target metadata entry) standing made operands ready is fit =
-    out_fit (asid_of guests guest) MetadataPage source target (OfEntry metadata entry) made contents.pages (sealing_tests frames guests contents (commands.MdOut guest source target metadata entry) standing guest ready.tested (ready.held guest refl) (all_locked frames guests contents (commands.MdOut guest source target metadata entry) standing ready) operands) is fit
+    out_fit (asid_of guests guest) MetadataPage source target (OfEntry metadata entry) made contents.pages (ready_tests frames guests contents (commands.MdOut guest source target metadata entry) standing guest ready refl operands) is fit
 commit_fit frames guests contents (commands.MdIn guest source target metadata entry) standing made operands ready is fit =
-    in_fit (asid_of guests guest) MetadataPage source target (OfEntry metadata entry) made contents.pages (sealing_tests frames guests contents (commands.MdIn guest source target metadata entry) standing guest ready.tested (ready.held guest refl) (all_locked frames guests contents (commands.MdIn guest source target metadata entry) standing ready) operands) is fit
+    in_fit (asid_of guests guest) MetadataPage source target (OfEntry metadata entry) made contents.pages (ready_tests frames guests contents (commands.MdIn guest source target metadata entry) standing guest ready refl operands) is fit
 commit_fit frames guests contents (commands.MdRootOut guest source target) standing made operands ready is fit =
-    out_fit (asid_of guests guest) MetadataPage source target OfRoot made contents.pages (sealing_tests frames guests contents (commands.MdRootOut guest source target) standing guest ready.tested (ready.held guest refl) (all_locked frames guests contents (commands.MdRootOut guest source target) standing ready) tt) is fit
+    out_fit (asid_of guests guest) MetadataPage source target OfRoot made contents.pages (ready_tests frames guests contents (commands.MdRootOut guest source target) standing guest ready refl tt) is fit
 commit_fit frames guests contents (commands.MdRootIn guest source target) standing made operands ready is fit =
-    in_fit (asid_of guests guest) MetadataPage source target OfRoot made contents.pages (sealing_tests frames guests contents (commands.MdRootIn guest source target) standing guest ready.tested (ready.held guest refl) (all_locked frames guests contents (commands.MdRootIn guest source target) standing ready) tt) is fit
+    in_fit (asid_of guests guest) MetadataPage source target OfRoot made contents.pages (ready_tests frames guests contents (commands.MdRootIn guest source target) standing guest ready refl tt) is fit
 
 -- pages of 2 MB: each frame keeps its facts, or is a page of 4 KB and stays one
 abbrev StaysOrSmall : Page → Page → Type 0
@@ -222,21 +226,21 @@ commit_sizes frames guests contents part (commands.LaunchFinish guest) made oper
 commit_sizes frames guests contents part (commands.MdInit frame) made operands ready whole = commit_large frames guests contents part (commands.MdInit frame) made refl ready whole
 commit_sizes frames guests contents part (commands.PageMove guest source target) made operands ready whole = commit_large frames guests contents part (commands.PageMove guest source target) made refl ready whole
 commit_sizes frames guests contents part (commands.SwapOut guest source target metadata entry) made operands ready whole =
-    out_large (asid_of guests guest) GuestPage source target (OfEntry metadata entry) made contents.pages (sealing_tests frames guests contents (commands.SwapOut guest source target metadata entry) part.standing guest ready.tested (ready.held guest refl) (all_locked frames guests contents (commands.SwapOut guest source target metadata entry) part.standing ready) operands)
+    out_large (asid_of guests guest) GuestPage source target (OfEntry metadata entry) made contents.pages (ready_tests frames guests contents (commands.SwapOut guest source target metadata entry) part.standing guest ready refl operands)
     ((page_at frames guests contents (commands.SwapOut guest source target metadata entry) part.standing 0 (record { part = Source; frame = source }) ready refl).small refl) whole
 commit_sizes frames guests contents part (commands.SwapIn guest source target metadata entry) made operands ready whole =
-    in_large (asid_of guests guest) GuestPage source target (OfEntry metadata entry) made contents.pages (sealing_tests frames guests contents (commands.SwapIn guest source target metadata entry) part.standing guest ready.tested (ready.held guest refl) (all_locked frames guests contents (commands.SwapIn guest source target metadata entry) part.standing ready) operands)
+    in_large (asid_of guests guest) GuestPage source target (OfEntry metadata entry) made contents.pages (ready_tests frames guests contents (commands.SwapIn guest source target metadata entry) part.standing guest ready refl operands)
     ((page_at frames guests contents (commands.SwapIn guest source target metadata entry) part.standing 1 (record { part = Target; frame = target }) ready refl).small refl) whole
 commit_sizes frames guests contents part (commands.Reclaim frame) made operands ready whole = commit_large frames guests contents part (commands.Reclaim frame) made refl ready whole
 commit_sizes frames guests contents part (commands.MdOut guest source target metadata entry) made operands ready whole =
-    out_large (asid_of guests guest) MetadataPage source target (OfEntry metadata entry) made contents.pages (sealing_tests frames guests contents (commands.MdOut guest source target metadata entry) part.standing guest ready.tested (ready.held guest refl) (all_locked frames guests contents (commands.MdOut guest source target metadata entry) part.standing ready) operands)
+    out_large (asid_of guests guest) MetadataPage source target (OfEntry metadata entry) made contents.pages (ready_tests frames guests contents (commands.MdOut guest source target metadata entry) part.standing guest ready refl operands)
     ((page_at frames guests contents (commands.MdOut guest source target metadata entry) part.standing 0 (record { part = Source; frame = source }) ready refl).small refl) whole
 commit_sizes frames guests contents part (commands.MdIn guest source target metadata entry) made operands ready whole =
-    in_large (asid_of guests guest) MetadataPage source target (OfEntry metadata entry) made contents.pages (sealing_tests frames guests contents (commands.MdIn guest source target metadata entry) part.standing guest ready.tested (ready.held guest refl) (all_locked frames guests contents (commands.MdIn guest source target metadata entry) part.standing ready) operands)
+    in_large (asid_of guests guest) MetadataPage source target (OfEntry metadata entry) made contents.pages (ready_tests frames guests contents (commands.MdIn guest source target metadata entry) part.standing guest ready refl operands)
     ((page_at frames guests contents (commands.MdIn guest source target metadata entry) part.standing 1 (record { part = Target; frame = target }) ready refl).small refl) whole
 commit_sizes frames guests contents part (commands.MdRootOut guest source target) made operands ready whole =
-    out_large (asid_of guests guest) MetadataPage source target OfRoot made contents.pages (sealing_tests frames guests contents (commands.MdRootOut guest source target) part.standing guest ready.tested (ready.held guest refl) (all_locked frames guests contents (commands.MdRootOut guest source target) part.standing ready) tt)
+    out_large (asid_of guests guest) MetadataPage source target OfRoot made contents.pages (ready_tests frames guests contents (commands.MdRootOut guest source target) part.standing guest ready refl tt)
     ((page_at frames guests contents (commands.MdRootOut guest source target) part.standing 0 (record { part = Source; frame = source }) ready refl).small refl) whole
 commit_sizes frames guests contents part (commands.MdRootIn guest source target) made operands ready whole =
-    in_large (asid_of guests guest) MetadataPage source target OfRoot made contents.pages (sealing_tests frames guests contents (commands.MdRootIn guest source target) part.standing guest ready.tested (ready.held guest refl) (all_locked frames guests contents (commands.MdRootIn guest source target) part.standing ready) tt)
+    in_large (asid_of guests guest) MetadataPage source target OfRoot made contents.pages (ready_tests frames guests contents (commands.MdRootIn guest source target) part.standing guest ready refl tt)
     ((page_at frames guests contents (commands.MdRootIn guest source target) part.standing 1 (record { part = Target; frame = target }) ready refl).small refl) whole

@@ -1,5 +1,5 @@
 -- The commit of each command keeps each guest's context and root in order: a counter that seals had one left.
-use Rattle.std.proofs.Common.{◌≡◌, ◌≢◌, ⊎_elim, ℕ, ◌+◌, ◌^◌, ◌<◌, ◌≤◌, not, eqb, IfSome, List, Option, Some, None, sym, ap, ◌∙◌, subst, arith, refl}
+use Rattle.std.proofs.Common.{◌≡◌, ◌≢◌, ⊎_elim, ℕ, ◌+◌, ◌^◌, ◌<◌, ◌≤◌, not, eqb, IfSome, List, Option, Some, None, subst, arith, refl}
 use Rattle.std.specs.Option.{option_or}
 use Rattle.std.proofs.lemmas.Bool.{cond_both, cases_lt, eqb-true, eqb-false}
 use Rattle.snp_model.specs.declared.command.Command.{Command}
@@ -7,7 +7,7 @@ use Rattle.snp_model.specs.declared.command.Command.TheVariants as commands
 use Rattle.snp_model.specs.declared.event.FwRefusal.TheVariants as refusals
 use Rattle.snp_model.specs.declared.firmware.MetaEntry.{MetaEntry}
 use Rattle.snp_model.specs.declared.scenario.GuestSpec.{GuestSpec}
-use Rattle.snp_model.specs.Firmware.{guest_of, has_equal_frames, aead_oflow, invalid_param, invalid_guest_state, invalid_mdata_entry}
+use Rattle.snp_model.specs.Firmware.{guest_of, has_equal_frames, aead_oflow, invalid_param, invalid_guest_state}
 use Rattle.snp_model.specs.FirmwareCommits.{at_guest, context_after, launched_into, root_after}
 use Rattle.snp_model.specs.FirmwareLocks.{guest_refusal, takes_context, last_counter, counter_refusal, root_out_refusal, context_extra, context_refusal}
 use Rattle.snp_model.specs.FirmwareStep.{context_committed, contexts_after}

@@ -1,26 +1,23 @@
 -- Each change of a frame's facts keeps them together, where its tests passed.
-use Rattle.std.proofs.Common.{◌≡◌, ◌≢◌, ℕ, zero, suc, ◌%◌, ◌^◌, ◌<◌, Bool, true, false, not, cond, eqb, List, [], ◌∷◌, length, set, refl, sym, ap, ◌∙◌, arith}
+use Rattle.std.proofs.Common.{◌≡◌, ◌≢◌, ℕ, zero, suc, ◌%◌, ◌^◌, ◌<◌, Bool, true, false, not, cond, eqb, List, [], ◌∷◌, set, refl, sym, ap, ◌∙◌, arith}
 use Rattle.std.specs.List.{AllByRecursion}
 use Rattle.std.proofs.lemmas.Bool.{cond_both, eqb-true, true≢false}
 use Rattle.std.proofs.lemmas.List.{length-set}
 use Rattle.snp_model.specs.declared.entry.Kind.{Kind}
 use Rattle.snp_model.specs.declared.entry.Kind.TheVariants as kinds
-use Rattle.snp_model.specs.declared.entry.PageSize.TheVariants.{Small}
 use Rattle.snp_model.specs.declared.entry.RmpEntry.{RmpEntry}
 use Rattle.snp_model.specs.declared.firmware.MetaEntry.{MetaEntry}
-use Rattle.snp_model.specs.declared.firmware.PageState.{PageState}
-use Rattle.snp_model.specs.declared.firmware.PageState.TheVariants as states
 use Rattle.snp_model.specs.declared.item.Update.{Update}
 use Rattle.snp_model.specs.Bounds.{IsUpdate, IsLaunchedWith}
 use Rattle.snp_model.specs.Facts.{free_entry}
-use Rattle.snp_model.specs.FirmwareCommits.{context_facts, launched_facts, metadata_facts, taken_facts, gpn_from_zero, reclaim_facts, restored_facts, metadata_out_facts, given_back_facts}
+use Rattle.snp_model.specs.FirmwareCommits.{context_facts, launched_facts, metadata_facts, taken_facts, reclaim_facts, restored_facts, metadata_out_facts, given_back_facts}
 use Rattle.snp_model.specs.Metadata.{AreBytes, IsMetaEntry}
 use Rattle.snp_model.specs.RmpUpdate.{makes_immutable, immutable_kind, assigned_facts, updated_facts, smashed_facts}
-use Rattle.snp_model.specs.Shapes.{IsFirmwares, IsNobodys, AreInRange, AreFactsOf}
+use Rattle.snp_model.specs.Shapes.{IsFirmwares, AreFactsOf}
 use Rattle.snp_model.specs.Validation.{carry, validated_facts, adjusted_facts}
 use Rattle.snp_model.specs.Verdicts.{is_large}
 use Rattle.snp_model.proofs.PageBytesLaws.{are_zeros}
-use Rattle.snp_model.proofs.StateFacts.{IsOfFirmware, IsOfMetadata, IsKeptFrom}
+use Rattle.snp_model.proofs.StateFacts.{IsOfFirmware, IsKeptFrom}
 use Rattle.snp_model.proofs.UpdateLaws.{IsUpdatable}
 
 -- four permissions

@@ -1,5 +1,5 @@
 -- Frames whose facts go together and whose words are full stay so at each access and at each commit of an instruction of the RMP.
-use Rattle.std.proofs.Common.{◌≡◌, ◌≢◌, ℕ, ◌+◌, ◌-◌, ◌^◌, ◌<◌, ◌≤◌, Bool, true, false, eqb, List, refl, sym, ap, ◌∙◌, subst, arith, set}
+use Rattle.std.proofs.Common.{◌≡◌, ◌≢◌, ℕ, ◌+◌, ◌-◌, ◌^◌, ◌<◌, ◌≤◌, Bool, true, eqb, List, refl, sym, ap, ◌∙◌, subst, arith, set}
 use Rattle.std.proofs.lemmas.Bool.{cond_both}
 use Rattle.std.proofs.lemmas.Bool.Decides.{nat_tests}
 use Rattle.std.proofs.lemmas.List.{length-set}
@@ -13,7 +13,7 @@ use Rattle.snp_model.specs.declared.item.Update.{Update}
 use Rattle.snp_model.specs.Bounds.{IsUpdate}
 use Rattle.snp_model.specs.Facts.{frames_in}
 use Rattle.snp_model.specs.HeldLocks.{IsUpdateLock}
-use Rattle.snp_model.specs.Locks.{in_range, covers, over_lock, page_lock}
+use Rattle.snp_model.specs.Locks.{in_range, covers, page_lock}
 use Rattle.snp_model.specs.Operands.{AreWordsOf}
 use Rattle.snp_model.specs.RmpUpdate.{makes_immutable, updated_words, updated_page, pages_updated, smashed_page, pages_smashed}
 use Rattle.snp_model.specs.Shapes.{AreFactsOf}

@@ -1,5 +1,5 @@
 -- What every state of a run keeps, whatever the guest is and whether it is disciplined or not: locks, open attempts, shapes, and that what was made and kept fits.
-use Rattle.std.proofs.Common.{◌≡◌, ℕ, ◌<◌, IfSome, List, length, Option, Some}
+use Rattle.std.proofs.Common.{◌≡◌, ℕ, IfSome, length, Some}
 use Rattle.snp_model.specs.declared.firmware.MetaEntry.{MetaEntry}
 use Rattle.snp_model.specs.Bounds.{IsRole}
 use Rattle.snp_model.specs.KeptLocks.{KeepsLocks}

@@ -1,5 +1,5 @@
 -- An event of an item that seals and opens nothing keeps what ties counters and seals together, and leaves the past.
-use Rattle.std.proofs.Common.{◌≡◌, ◌≢◌, ℕ, ◌-◌, Bool, true, List, length, Option, Some, None, unwrap_or, refl, sym, ap, ◌∙◌}
+use Rattle.std.proofs.Common.{◌≡◌, ◌≢◌, ℕ, ◌-◌, Bool, List, length, Option, None, unwrap_or, refl, sym, ap, ◌∙◌}
 use Rattle.std.proofs.lemmas.Bool.{cond_both}
 use Rattle.snp_model.specs.declared.entry.Kind.TheVariants as kinds
 use Rattle.snp_model.specs.declared.entry.RmpEntry.{RmpEntry}
@@ -19,10 +19,10 @@ use Rattle.snp_model.specs.HeldLocks.{IsUpdateLock, AreItemLocks}
 use Rattle.snp_model.specs.Live.{Archive, vault_of}
 use Rattle.snp_model.specs.Operands.{AreOperands}
 use Rattle.snp_model.specs.Past.{Past, past_computed, past_committed, sealing_in, past_with}
-use Rattle.snp_model.specs.RmpUpdate.{updated_facts, updated_page, pages_updated, smashed_page, pages_smashed}
+use Rattle.snp_model.specs.RmpUpdate.{updated_page, pages_updated, smashed_page, pages_smashed}
 use Rattle.snp_model.specs.Sealing.{Sealing}
 use Rattle.snp_model.specs.Shapes.{AreFactsOf}
-use Rattle.snp_model.specs.State.{Page, Pages, PageLock, Contents, Computed, ActorPart, View, with_word}
+use Rattle.snp_model.specs.State.{Page, PageLock, Contents, Computed, ActorPart, View, with_word}
 use Rattle.snp_model.specs.Step.{pages_after, item_move}
 use Rattle.snp_model.specs.Uniqueness.{Seals}
 use Rattle.snp_model.specs.Validation.{carry, validated_facts, validated_page, pages_validated, adjusted_facts, adjusted_page, pages_adjusted}

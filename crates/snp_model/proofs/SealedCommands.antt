@@ -14,7 +14,7 @@ use Rattle.snp_model.specs.declared.scenario.GuestSpec.{GuestSpec}
 use Rattle.snp_model.specs.declared.scenario.Role.{Role}
 use Rattle.snp_model.specs.declared.scenario.Role.TheVariants.{Firmware}
 use Rattle.snp_model.specs.Firmware.{entry_of, success}
-use Rattle.snp_model.specs.FirmwareStep.{nothing_made, pages_after, commit_deed, context_taken, computed_move, commit_move}
+use Rattle.snp_model.specs.FirmwareStep.{nothing_made, commit_deed, context_taken, computed_move, commit_move}
 use Rattle.snp_model.specs.GuestMemory.{Memory, Use, Untouched, firmware_use, use_for, IsLegalUse, used}
 use Rattle.snp_model.specs.HeldLocks.{AreCommandLocks}
 use Rattle.snp_model.specs.Live.{Archive, vault_of}

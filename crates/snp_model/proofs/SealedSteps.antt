@@ -1,9 +1,8 @@
 -- Every event of every actor, those of the six commands that seal or open a page among them, keeps a state in order, and what ties a guest's pages to their holders, with the past brought on.
-use Rattle.std.proofs.Common.{◌≡◌, ◌≢◌, ℕ, ◌-◌, ◌<◌, ◌≤◌, List, length, Option, Some, None, sym, ap, subst, refl}
+use Rattle.std.proofs.Common.{◌≡◌, ℕ, ◌-◌, ◌<◌, ◌≤◌, length, Option, Some, None, sym, ap, subst, refl}
 use Rattle.snp_model.specs.declared.command.Command.{Command}
 use Rattle.snp_model.specs.declared.item.Item.{Item}
 use Rattle.snp_model.specs.declared.item.Item.TheVariants as items
-use Rattle.snp_model.specs.declared.scenario.GuestSpec.{GuestSpec}
 use Rattle.snp_model.specs.declared.scenario.Role.{Role}
 use Rattle.snp_model.specs.declared.scenario.Role.TheVariants.{Cpu, Host, Firmware}
 use Rattle.snp_model.specs.Bounds.{IsRole}
@@ -34,7 +33,7 @@ use Rattle.snp_model.proofs.SealingCommits.{BeforeCommit}
 use Rattle.snp_model.proofs.SealOutCommit.{Ties}
 use Rattle.snp_model.proofs.ShapedLaws.{asid_differs, asid_not_zero, shaped_commit}
 use Rattle.snp_model.proofs.ShapedSteps.{shape_after, order_after}
-use Rattle.snp_model.proofs.UseLaws.{OwnsAmong, RoleOwns, Before}
+use Rattle.snp_model.proofs.UseLaws.{RoleOwns, Before}
 use Rattle.snp_model.proofs.ValidateUseLaws.{LacksAccepted}
 
 -- what an event of an item goes by, for a guest

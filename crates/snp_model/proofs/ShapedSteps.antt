@@ -1,5 +1,5 @@
 -- Every event keeps a state in order, whatever its guests are: shapes, locks, open attempts, and what was made.
-use Rattle.std.proofs.Common.{◌≡◌, ℕ, ◌-◌, ◌^◌, ◌<◌, IfSome, List, length, Option, Some, None, Ok, refl, sym, ap, ◌∙◌, subst}
+use Rattle.std.proofs.Common.{◌≡◌, ℕ, ◌-◌, ◌^◌, ◌<◌, IfSome, List, length, Option, Some, None, Ok, sym, subst}
 use Rattle.std.specs.Prelude.{slice_set}
 use Rattle.std.specs.List.{AllByRecursion}
 use Rattle.snp_model.specs.declared.event.Outcome.{Outcome}
@@ -11,14 +11,13 @@ use Rattle.snp_model.specs.Locks.{view_of}
 use Rattle.snp_model.specs.Metadata.{IsMetaEntry}
 use Rattle.snp_model.specs.Moves.{Move}
 use Rattle.snp_model.specs.Opening.{asid_of}
-use Rattle.snp_model.specs.Sealing.{What, Slot, OfEntry, OfRoot, Sealing, SealOut, SealIn, sealing_of, slot_entry, sealed_as, compute_of}
+use Rattle.snp_model.specs.Sealing.{Slot, OfEntry, OfRoot, Sealing, SealOut, SealIn, sealing_of, slot_entry, compute_of}
 use Rattle.snp_model.specs.Shapes.{IsContextFor, HasAsid, AreShaped}
-use Rattle.snp_model.specs.State.{Pages, Context, Contents, Computed, ActorPart, State, part_of, IsUnfinished, idle_part}
-use Rattle.snp_model.specs.Step.{item_move, line_at, part_after, step_of, after}
-use Rattle.snp_model.specs.Uniqueness.{IsFull}
+use Rattle.snp_model.specs.State.{Context, Contents, Computed, ActorPart, State, part_of, IsUnfinished, idle_part}
+use Rattle.snp_model.specs.Step.{item_move, line_at, part_after, after}
 use Rattle.snp_model.proofs.ChangeLaws.{HoldsAfter, Leaves, by_change}
 use Rattle.snp_model.proofs.EntryWords.{entry_fits}
-use Rattle.snp_model.proofs.FitCommands.{FitIfSealed, fit_if_sealed, commit_fit, commit_sizes}
+use Rattle.snp_model.proofs.FitCommands.{fit_if_sealed, commit_fit, commit_sizes}
 use Rattle.snp_model.proofs.FitContexts.{AreFitRoots, contexts_fit, roots_fit}
 use Rattle.snp_model.proofs.FitPages.{AreFitPages, access_fit, access_large, update_fit, smash_fit, validate_fit, adjust_fit}
 use Rattle.snp_model.proofs.FreshLaws.{IsFitContext, fresh_fits, cipher_full}
