@@ -14,8 +14,7 @@ use Rattle.snp_model.specs.declared.scenario.GuestSpec.{GuestSpec}
 use Rattle.snp_model.specs.declared.scenario.Role.{Role}
 use Rattle.snp_model.specs.declared.scenario.Role.TheVariants.{Cpu, Host, Firmware}
 use Rattle.snp_model.specs.Firmware.{CommandPage, guest_of, pages_of, entry_of}
-use Rattle.snp_model.specs.FirmwareLocks.{guest_refusal, context_refusal}
-use Rattle.snp_model.specs.FirmwareStep.{Phase, pages_phase, context_phase, context_taken, take_context, refused, command_asid, lock_refusal, take_page, computed_move, commit_move, phase_move, firmware_move}
+use Rattle.snp_model.specs.FirmwareStep.{Phase, pages_phase, context_phase, context_taken, take_context, take_page, computed_move, commit_move, phase_move, firmware_move}
 use Rattle.snp_model.specs.GuestMemory.{Memory}
 use Rattle.snp_model.specs.HeldLocks.{AreCommandLocks, AreItemLocks}
 use Rattle.snp_model.specs.Live.{Archive, vault_of}
@@ -27,7 +26,7 @@ use Rattle.snp_model.specs.Operands.{AreCommandOperands, AreOperands}
 use Rattle.snp_model.specs.Past.{Past, past_computed, past_with, past_after}
 use Rattle.snp_model.specs.Premises.{NoChance, NoChanceStep}
 use Rattle.snp_model.specs.Sealing.{Sealing, sealing_of, compute_of}
-use Rattle.snp_model.specs.State.{PageLock, Contents, Computed, Standing, nothing_taken, ActorPart, State, View, part_of, idle_part, IsUnfinished}
+use Rattle.snp_model.specs.State.{PageLock, Contents, Computed, Standing, nothing_taken, ActorPart, State, View, part_of, IsUnfinished}
 use Rattle.snp_model.specs.Step.{item_move, line_at, part_after, event_of, after}
 use Rattle.snp_model.proofs.FirmwareLocked.{held_context}
 use Rattle.snp_model.proofs.InOrder.{IsInOrder}
@@ -86,7 +85,7 @@ unfolding after
 leaves_locked g m past actor other unfinished order made apart =
     let locks = move_locks m actor order.locks (part_walking m actor order.walking unfinished) in
     let contexts_apart = λ (h : ℕ) (locked : (part_of m other).standing.context_lock ≡ Some h). not_true (locks_context h (part_of m actor))
-        (λ own. apart (order.locks.one.contexts_by_one (other - 1) (actor - 1) h (held_context (part_of m other) h locked) own)) in
+    (λ own. apart (order.locks.one.contexts_by_one (other - 1) (actor - 1) h (held_context (part_of m other) h locked) own)) in
     record {
       pages = λ f locked. locks.own f (not_true (locks_frame f (part_of m actor)) (λ own. apart (order.locks.one.pages_by_one (other - 1) (actor - 1) f locked own)));
       contexts = λ h locked. locks.own_contexts h (contexts_apart h locked);

@@ -1,5 +1,5 @@
 -- At the opening of a sound scenario each page of a declared guest has at most one holder, with the words of the guest's memory, whatever archive is taken: nothing is sealed.
-use Rattle.std.proofs.Common.{◌≡◌, ℕ, ◌<◌, ◌≤◌, List, [], ◌∷◌, length}
+use Rattle.std.proofs.Common.{ℕ, ◌<◌, ◌≤◌, List, [], ◌∷◌, length}
 use Rattle.std.specs.List.{AllByRecursion}
 use Rattle.snp_model.specs.declared.scenario.PageSpec.{PageSpec}
 use Rattle.snp_model.specs.declared.scenario.Scenario.{Scenario}

@@ -1,25 +1,23 @@
 -- The opening of a sound scenario is in order.
-use Rattle.std.proofs.Common.{◌≡◌, ℕ, zero, suc, ◌-◌, ◌<◌, List, [], ◌∷◌, length, map, get_or, slice_get, Option, Some, None, refl, sym, ap, ◌∙◌, arith}
+use Rattle.std.proofs.Common.{ℕ, zero, suc, ◌-◌, List, [], ◌∷◌, map, get_or, slice_get, sym, ap, ◌∙◌}
 use Rattle.std.proofs.lemmas.Option.{none-some}
 use Rattle.std.specs.List.{AllByRecursion}
 use Rattle.snp_model.specs.declared.command.Command.{Command}
 use Rattle.snp_model.specs.declared.command.Command.TheVariants as commands
-use Rattle.snp_model.specs.declared.firmware.MetaEntry.{MetaEntry}
 use Rattle.snp_model.specs.declared.item.Item.{Item}
 use Rattle.snp_model.specs.declared.item.Item.TheVariants as items
 use Rattle.snp_model.specs.declared.item.Line.{Line}
 use Rattle.snp_model.specs.declared.item.Op.{Op}
 use Rattle.snp_model.specs.declared.item.Op.TheVariants.{Load, Store, Swap, Compare, Xor}
 use Rattle.snp_model.specs.declared.scenario.Actor.{Actor}
-use Rattle.snp_model.specs.declared.scenario.GuestSpec.{GuestSpec}
 use Rattle.snp_model.specs.declared.scenario.Role.{Role}
 use Rattle.snp_model.specs.declared.scenario.Role.TheVariants.{Cpu, Host, Firmware}
 use Rattle.snp_model.specs.declared.scenario.Scenario.{Scenario}
 use Rattle.snp_model.specs.Bounds.{AreOperationWords, IsRole, IsFirmwareCommand, IsItemOf, IsLineOf}
-use Rattle.snp_model.specs.Opening.{opening, opening_part, opening_context}
+use Rattle.snp_model.specs.Opening.{opening, opening_part}
 use Rattle.snp_model.specs.Operands.{AreWordsOf, AreCommandOperands, AreOperands, HaveOperands}
 use Rattle.snp_model.specs.Sound.{IsSound, IsActor}
-use Rattle.snp_model.specs.State.{Computed, Standing, State, idle_part, nothing_taken, part_of}
+use Rattle.snp_model.specs.State.{Standing, idle_part}
 use Rattle.snp_model.specs.Step.{idle_line, line_at}
 use Rattle.snp_model.proofs.InOrder.{IsInOrder, HaveFitMade, HaveFitRoots, HaveRoles}
 use Rattle.snp_model.proofs.LockedRuns.{opening_keeps_locks, shaped_whole}

@@ -6,7 +6,7 @@ use Rattle.snp_model.specs.declared.scenario.GuestSpec.{GuestSpec}
 use Rattle.snp_model.specs.declared.scenario.Scenario.{Scenario}
 use Rattle.snp_model.specs.GuestMemory.{memory_after}
 use Rattle.snp_model.specs.HeldLocks.{AreLocked}
-use Rattle.snp_model.specs.Holders.{Holder, InFrame, Core}
+use Rattle.snp_model.specs.Holders.{InFrame}
 use Rattle.snp_model.specs.Invariant.{IsUniqueFor, IsUnique}
 use Rattle.snp_model.specs.Live.{vault_of}
 use Rattle.snp_model.specs.Opening.{asid_of, opening}
