@@ -1,5 +1,5 @@
 -- The opening of a sound scenario is in order.
-use Rattle.std.proofs.Common.{ℕ, zero, suc, ◌-◌, List, [], ◌∷◌, map, get_or, slice_get, sym, ap, ◌∙◌}
+use Rattle.std.proofs.Common.{ℕ, zero, suc, ◌-◌, List, [], ◌∷◌, map, get_or, slice_get, sym, ap, ◌∙◌, arith}
 use Rattle.std.proofs.lemmas.Option.{none-some}
 use Rattle.std.specs.List.{AllByRecursion}
 use Rattle.snp_model.specs.declared.command.Command.{Command}
@@ -45,11 +45,11 @@ command_operands (commands.LaunchUpdate guest frame page_type imi perms) is = is
 command_operands (commands.LaunchFinish guest) is = tt
 command_operands (commands.MdInit frame) is = tt
 command_operands (commands.PageMove guest source target) is = tt
-command_operands (commands.SwapOut guest source target metadata entry) is = absurd is
-command_operands (commands.SwapIn guest source target metadata entry) is = absurd is
+command_operands (commands.SwapOut guest source target metadata entry) is = grind (arith, is)
+command_operands (commands.SwapIn guest source target metadata entry) is = grind (arith, is)
 command_operands (commands.Reclaim frame) is = tt
-command_operands (commands.MdOut guest source target metadata entry) is = absurd is
-command_operands (commands.MdIn guest source target metadata entry) is = absurd is
+command_operands (commands.MdOut guest source target metadata entry) is = grind (arith, is)
+command_operands (commands.MdIn guest source target metadata entry) is = grind (arith, is)
 command_operands (commands.MdRootOut guest source target) is = tt
 command_operands (commands.MdRootIn guest source target) is = tt
 
