@@ -39,8 +39,8 @@ IsChosen true c schedule = FinishesAll c schedule
 IsChosen false c schedule = schedule ≡ order_of c
 
 -- this is so of the report of one run of the scenario. In that run each actor's items come once and in order, the private
--- accesses of each guest that validates no page which it holds are one legal history of a memory of its own, and the order
--- lines of the report spell its schedule
+-- accesses of each disciplined guest, for which no ciphertext meets the tag of another, are one legal history of a memory of
+-- its own, and the order lines of the report spell its schedule
 pub record IsReported (to_ends : Bool) (c : Scenario) (Writes : List ℕ → Type 0) : Type 0 where
   pub schedule : List ℕ
   pub chosen : IsChosen to_ends c schedule

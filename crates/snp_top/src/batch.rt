@@ -74,8 +74,9 @@ pub fn snp_batch<S: Source, K: Sink>(
     ensures report_written { result ≡ 0 → is_replay (map string_bytes words.now.items) ≡ true → ForScenario (S.left source.old)
         (λ c. Adds (K.written sink.old) (K.written sink.new) (report_of c (order_of c))) }
 
-    // In it each actor's items come once and in order. And if a guest validates no page that it holds, its private
-    // accesses are one legal history of a memory of its own, whatever the hypervisor and the other guests do.
+    // In it each actor's items come once and in order. And if no page is validated by a guest or launched for it while it
+    // holds it, and no ciphertext meets the tag of another where a page is opened for it, its private accesses are one legal
+    // history of a memory of its own, whatever the hypervisor, the firmware and the other guests do.
     ensures items_in_order { result ≡ 0 → is_replay (map string_bytes words.now.items) ≡ true → ForScenario (S.left source.old) (λ c. IsOrdered c (order_of c)) }
     ensures guest_memory_legal { result ≡ 0 → is_replay (map string_bytes words.now.items) ≡ true → ForScenario (S.left source.old) (λ c. AreLegal c (order_of c)) }
 
