@@ -74,6 +74,7 @@ pub mod SealOutCommit
 pub mod SealOutLaws
 pub mod SealingCommits
 pub mod SealingPages
+pub mod SealingSoundLaws
 pub mod SealingTests
 pub mod ShapeLaws
 pub mod ShapedLaws
