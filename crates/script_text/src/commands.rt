@@ -17,9 +17,9 @@ use crate::number::{read_below, read_number, read_ranged};
 use crate::words::Words;
 use snp_model::{Command, Item, Line, Reason};
 
-// The guest of a command, which may be an undeclared one.
+/// The guest of a command, which may be an undeclared one.
 #[tactic(auto, unfolding(snp_model::specs::ItemLines::guest_word))]
-fn read_guest(word: &[u8]) -> Result<u8, Reason>
+pub fn read_guest(word: &[u8]) -> Result<u8, Reason>
     ensures { result ≡ guest_word word.now }
 {
     let guest = read_ranged(1, 8, word)?;

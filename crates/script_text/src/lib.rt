@@ -6,6 +6,7 @@ pub mod instructions;
 pub mod item;
 pub mod number;
 pub mod pen;
+pub mod sealing;
 pub mod words;
 pub mod writing;
 

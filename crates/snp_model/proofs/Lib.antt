@@ -88,6 +88,7 @@ pub mod SealedCommands
 pub mod SealedSteps
 pub mod SealingCommits
 pub mod SealingPages
+pub mod SealingSoundLaws
 pub mod SealingTests
 pub mod SealedLaws
 pub mod SealedRuns

@@ -1,7 +1,7 @@
 -- The lines of items, a row for each form, by the role of their actor. The texts are this project's own.
 use Rattle.std.specs.Prelude.{ℕ, ◌+◌, ◌*◌, ◌^◌, ◌==◌, ◌||◌, if◌then◌else◌, Bool, List, [], ◌∷◌, Result, Ok, Err, codes, bytes_eq, length}
 use Rattle.snp_model.specs.declared.command.Command.{Command}
-use Rattle.snp_model.specs.declared.command.Command.TheVariants.{GctxCreate, Activate, LaunchStart, LaunchUpdate, LaunchFinish, MdInit, PageMove, Reclaim}
+use Rattle.snp_model.specs.declared.command.Command.TheVariants.{GctxCreate, Activate, LaunchStart, LaunchUpdate, LaunchFinish, MdInit, PageMove, SwapOut, SwapIn, Reclaim, MdOut, MdIn, MdRootOut, MdRootIn}
 use Rattle.snp_model.specs.declared.entry.PageSize.{PageSize}
 use Rattle.snp_model.specs.declared.entry.PageSize.TheVariants.{Small, Large}
 use Rattle.snp_model.specs.declared.reading.Reason.{Reason}
@@ -254,12 +254,78 @@ reclaim_operands ws = do
   frame ← number (word ws 1)
   Ok (Reclaim frame)
 
+-- `G SRC DST`: the guest of a command that seals or opens a page, and the frames that it reads and fills
+unfoldable pub frames_words : List (List ℕ) → Result (ℕ × ℕ × ℕ) Reason
+frames_words ws = do
+  guest ← guest_word (word ws 1)
+  source ← number (word ws 2)
+  target ← number (word ws 3)
+  Ok (guest, source, target)
+
+-- `MD E` behind them: a metadata page and an entry of it
+unfoldable pub place_words : List (List ℕ) → Result (ℕ × ℕ) Reason
+place_words ws = do
+  metadata ← number (word ws 4)
+  entry ← below 64 (word ws 5)
+  Ok (metadata, entry)
+
+-- `swap_out G SRC DST MD E`
+unfoldable pub swap_out_operands : List (List ℕ) → Result Command Reason
+swap_out_operands ws = do
+  pages ← frames_words ws
+  place ← place_words ws
+  Ok (SwapOut pages.0 pages.1 pages.2 place.0 place.1)
+
+-- `swap_in G SRC DST MD E`
+unfoldable pub swap_in_operands : List (List ℕ) → Result Command Reason
+swap_in_operands ws = do
+  pages ← frames_words ws
+  place ← place_words ws
+  Ok (SwapIn pages.0 pages.1 pages.2 place.0 place.1)
+
+-- `md_out G SRC DST MD E`
+unfoldable pub metadata_out_operands : List (List ℕ) → Result Command Reason
+metadata_out_operands ws = do
+  pages ← frames_words ws
+  place ← place_words ws
+  Ok (MdOut pages.0 pages.1 pages.2 place.0 place.1)
+
+-- `md_in G SRC DST MD E`
+unfoldable pub metadata_in_operands : List (List ℕ) → Result Command Reason
+metadata_in_operands ws = do
+  pages ← frames_words ws
+  place ← place_words ws
+  Ok (MdIn pages.0 pages.1 pages.2 place.0 place.1)
+
+-- `md_root_out G SRC DST`
+unfoldable pub root_out_operands : List (List ℕ) → Result Command Reason
+root_out_operands ws = do
+  pages ← frames_words ws
+  Ok (MdRootOut pages.0 pages.1 pages.2)
+
+-- `md_root_in G SRC DST`
+unfoldable pub root_in_operands : List (List ℕ) → Result Command Reason
+root_in_operands ws = do
+  pages ← frames_words ws
+  Ok (MdRootIn pages.0 pages.1 pages.2)
+
 -- a command with so many words of its own, which `retry N` may end
 unfoldable pub command_row : List (List ℕ) → ℕ → Result Command Reason → Result Line Reason
 command_row ws count operands = do
   command ← operands
   retries ← retries_word ws count
   Ok (record { item = items.Firmware command; retries = retries })
+
+-- the commands that seal or open a page, and the items of every role
+unfoldable pub sealing_item : List (List ℕ) → Result Line Reason
+sealing_item ws =
+    if is_retry_row ws (codes "swap_out") 6 then command_row ws 6 (swap_out_operands ws)
+    else if is_retry_row ws (codes "swap_in") 6 then command_row ws 6 (swap_in_operands ws)
+    else if is_retry_row ws (codes "md_out") 6 then command_row ws 6 (metadata_out_operands ws)
+    else if is_retry_row ws (codes "md_in") 6 then command_row ws 6 (metadata_in_operands ws)
+    else if is_retry_row ws (codes "md_root_out") 4 then command_row ws 4 (root_out_operands ws)
+    else if is_retry_row ws (codes "md_root_in") 4 then command_row ws 4 (root_in_operands ws)
+    else skip_item ws
 
 -- the items of a firmware actor
 unfoldable pub firmware_item : List (List ℕ) → Result Line Reason
