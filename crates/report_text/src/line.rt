@@ -179,8 +179,8 @@ fn put_commit(out: &mut [u8], at: usize, frame: u32, gpn: u64, size: PageSize) -
     }
 }
 
-// Writes how an attempt ended.
-#[inline(always)]
+// Writes how an attempt ended. It isn't inlined: most events have no outcome, and its fields would be cleared for each of them.
+#[inline(never)]
 #[tactic(auto, unfolding(snp_model::specs::EventText::outcome_text))]
 fn put_outcome(out: &mut [u8], at: usize, outcome: &Outcome) -> usize
     requires { at + 83 ≤ length out.old }

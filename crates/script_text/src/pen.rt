@@ -14,6 +14,10 @@ pub fn put(out: &mut [u8], at: usize, text: &[u8]) -> usize
     end
 }
 
+// The two digits of each number below 100.
+static PAIRS: [u8; 200] =
+    *b"00010203040506070809101112131415161718192021222324252627282930313233343536373839404142434445464748495051525354555657585960616263646566676869707172737475767778798081828384858687888990919293949596979899";
+
 // Writes two digits.
 #[inline(always)]
 fn put_pair(out: &mut [u8], at: usize, pair: u32) -> usize
@@ -22,7 +26,8 @@ fn put_pair(out: &mut [u8], at: usize, pair: u32) -> usize
     ensures end { result ≡ at + 2 }
     ensures text { take result out.new ≡ take at out.old ++ ((48 + pair / 10) ∷ (48 + pair % 10) ∷ []) }
 {
-    let text = [b'0' + (pair / 10) as u8, b'0' + (pair % 10) as u8];
+    let from = pair as usize * 2;
+    let text = [PAIRS[from], PAIRS[from + 1]];
     put(out, at, &text)
 }
 
