@@ -380,11 +380,17 @@ page_move 1 8 10
 end
 ''' % KEY
 
+# A page with two words, sealed: key, counter, ASID, guest page number, the words by their places, the last word of the ciphertext, and
+# the tag, by Python's `cryptography`.
+SEALED_PAGE = (bytes(range(32)), 258, 3, 0x1000, {0: 1, 511: 0x0123456789abcdef}, 0xa93df9d02c5d9524, '7b651d9d7a0f7e3bcd0c78bbc8839c07')
+
 # Two events, each as its actor's role, its item and its deed, and whether they commute.
 FREE_8, FREE_600 = ('host', 'rmpupdate 8 4k 0 0 0 0'), ('host', 'rmpupdate 600 4k 0 0 0 0')
 FREE_512, SMASH = ('host', 'rmpupdate 512 2m 0 0 0 0'), ('host', 'psmash 512')
 GUEST = 'cpu 1 vmpl 0 npt 1 flat'
 RECLAIM_8, RECLAIM_600, MOVE = ('fw', 'page_reclaim 8'), ('fw', 'page_reclaim 600'), ('fw', 'page_move 1 8 9')
+SWAP_OUT, SWAP_IN = ('fw', 'swap_out 1 8 9 10 0'), ('fw', 'swap_in 1 9 11 10 0')
+FREE_10 = ('host', 'rmpupdate 10 4k 0 0 0 0')
 COMMUTING = [
     (FREE_8 + ('lock 8',), ('host', 'load 0x8000', 'host 8:0 opaque'), True),  # accesses ignore locks
     (FREE_8 + ('commit 8 0x0 4k rc 0',), ('host', 'load 0x8000', 'host 8:0 opaque'), False),
@@ -423,6 +429,17 @@ COMMUTING = [
     (('fw', 'launch_finish 1', 'commitg 1 fw 0x0'), FREE_8 + ('commit 8 0x0 4k rc 0',), True),
     (('fw', 'launch_finish 1', 'commitg 1 fw 0x0'), MOVE + ('lockg 1 fw 0x2',), False),
     (('fw', 'md_init 9999', 'lock 9999 fw 0x9'), FREE_8 + ('commit 8 0x0 4k rc 0',), True),
+    (SWAP_OUT + ('lockg 1',), MOVE + ('lockg 1 fw 0x100 by 1',), False),
+    (SWAP_OUT + ('lock 10',), ('fw', 'md_out 2 10 11 12 0', 'lock 10 fw 0x100 by 1'), False),
+    (SWAP_OUT + ('compute',), ('host', 'store 0x9000 1', 'host 9:0 store'), True),  # the target is read and written by the commit alone
+    (SWAP_OUT + ('commit 8 0x0 4k fw 0x0',), ('host', 'store 0x9000 1', 'host 9:0 store'), False),
+    (SWAP_OUT + ('commit 8 0x0 4k fw 0x0',), ('fw', 'swap_out 2 13 14 10 1', 'lock 10 fw 0x100 by 1'), False),
+    (SWAP_OUT + ('commit 8 0x0 4k fw 0x0',), ('fw', 'swap_out 1 13 14 15 1', 'lockg 1'), False),  # the counter
+    (SWAP_IN + ('compute',), ('host', 'store 0x9000 1', 'host 9:0 store'), False),  # the ciphertext is read
+    (SWAP_IN + ('compute',), ('host', 'store 0xb000 1', 'host 11:0 store'), True),
+    (SWAP_IN + ('compute fw 0xb found %s kept %s' % ('0' * 32, '1' * 32),), FREE_10 + ('lock 10 rc 3 by 1',), False),  # it releases
+    (('fw', 'md_root_in 1 9 11', 'commit 11 0x0 4k fw 0x0'), ('fw', 'md_root_out 1 12 13', 'lockg 1 fw 0x100 by 1'), False),
+    (('fw', 'md_root_in 1 9 11', 'commit 11 0x0 4k fw 0x0'), ('host', 'load 0xa000', 'host 10:0 load 0x0'), True),
 ]
 
 # What the examples' items can end with in all interleavings.

@@ -66,16 +66,26 @@ BEGIN = {key: Row('PVALIDATE and RMPADJUST', 'the begin of PVALIDATE or RMPADJUS
 CONTEXT = rows('Commands of the firmware', 'the lock of a context', 'the guest isn\'t declared',
                'two of the command\'s frames are equal, as they are given', 'the context is locked',
                'the guest\'s state or its binding isn\'t as the command asks', '`activate`: the ASID is that of another declared guest',
-               '`activate`: the ASID isn\'t that of the guest', '`launch_update`: the page type isn\'t 1, 3 or 4')
+               '`activate`: the ASID isn\'t that of the guest', '`launch_update`: the page type isn\'t 1, 3 or 4',
+               '`swap_out`, `md_out` and `md_root_out`: the guest\'s counter is at its end', '`md_root_out`: the root is in use',
+               '`md_root_in`: the root isn\'t in use')
 PAGE = rows('Commands of the firmware', 'the lock of a page', 'the frame isn\'t in memory', 'the frame\'s page is locked',
             'the page is of 2 MB, and the command isn\'t `page_reclaim`', 'the page\'s state isn\'t one that the command asks',
-            'the command asks for a page of the guest, and the page\'s ASID is another')
-# The rows of the commands that scenarios have, by the status that they give.
-FIRMWARE_ROWS = {0x02: [CONTEXT[3]], 0x09: [PAGE[0]], 0x0C: [CONTEXT[4]], 0x16: [CONTEXT[0], CONTEXT[1], CONTEXT[5], CONTEXT[6]],
-                 0x19: [PAGE[2]], 0x1A: [PAGE[3]], 0x1C: [PAGE[4]], 0x100: [CONTEXT[2], PAGE[1]]}
+            'the command asks for a page of the guest, and the page\'s ASID is another',
+            'the source of `md_out` and `md_root_out`: an entry in use is another guest\'s',
+            'the metadata page of `swap_out` and `md_out`: the entry is in use',
+            'the metadata page of `swap_in` and `md_in`: the entry isn\'t in use, or is of another kind',
+            'the metadata page of `swap_in` and `md_in`: the entry is another guest\'s')
+COMPUTE = rows('Commands of the firmware', 'the compute', '`swap_in`, `md_in` and `md_root_in`: the tags differ',
+               '`md_in` and `md_root_in`: the opened page has an entry in use of another guest')
+# The rows of the commands, by the status that they give.
+FIRMWARE_ROWS = {0x02: [CONTEXT[3]], 0x09: [PAGE[0]], 0x0B: [COMPUTE[0]], 0x0C: [CONTEXT[4]],
+                 0x16: [CONTEXT[0], CONTEXT[1], CONTEXT[5], CONTEXT[6]], 0x19: [PAGE[2]], 0x1A: [PAGE[3]],
+                 0x1B: [CONTEXT[8], CONTEXT[9], PAGE[6], PAGE[7]], 0x1C: [PAGE[4], PAGE[5], PAGE[8], COMPUTE[1]], 0x1D: [CONTEXT[7]],
+                 0x100: [CONTEXT[2], PAGE[1]]}
 
 CITED = ([NESTED_NOT_PRESENT, NESTED_USER, NESTED_WRITE, GUEST_NOT_PRESENT, GUEST_WRITE, CANONICAL, OFFLINE] + PRIVATE + SHARED
-         + HOST + BAD_UPDATE + UPDATE + SMASH + VALIDATE + list(BEGIN.values()) + CONTEXT + PAGE)
+         + HOST + BAD_UPDATE + UPDATE + SMASH + VALIDATE + list(BEGIN.values()) + CONTEXT + PAGE + COMPUTE)
 
 # The rows of RMPUPDATE and PSMASH, and of the instructions of guests, by the status that they give.
 STATUS_ROWS = {1: BAD_UPDATE + [SMASH[0], SMASH[2], BEGIN['align'], BEGIN['mask'], VALIDATE[0]],

@@ -1,13 +1,14 @@
 """The commands of the firmware in words: which row of their tables refuses a lock, and what a commit changes.
 
-The rows are decided by the guests, entries and locks that scenario and report tell, and compared with what the report says.
+The rows are decided by the guests, entries and locks that scenario and report tell, and compared with what the report says. What
+the commands that seal and open pages do beyond that is in `seals`.
 """
 from __future__ import annotations
 
 from dataclasses import dataclass
 from typing import Dict, List, Optional, Tuple
 
-from . import codes
+from . import codes, seals
 from .codes import Row
 from .entries import Facts
 from .machine import Attempt, Watch
@@ -98,7 +99,7 @@ def context_refusal(watch: Watch, item: Item) -> Optional[Refusal]:
         return asid_refusal(watch, item)
     if item.word == 'launch_update' and item.operands[2] not in TYPES:
         return Refusal('fw 0x16', codes.CONTEXT[6], 'the page type is %d' % item.operands[2])
-    return None
+    return refusal_said(seals.context_extra(watch, item))
 
 
 def asid_refusal(watch: Watch, item: Item) -> Optional[Refusal]:
@@ -133,27 +134,36 @@ def page_refusal(watch: Watch, item: Item, place: int) -> Optional[Refusal]:
     guest = watch.scenario.guests.get(item.operands[0]) if is_owned else None
     if guest is not None and facts.asid != guest.asid:
         return Refusal('fw 0x1c', codes.PAGE[4], '%s, and the command is for guest %d' % (watch.entry_words(frame), item.operands[0]))
-    return None
+    is_sealing = item.word in seals.SEALS and item.operands[0] in watch.scenario.guests
+    return refusal_said(seals.page_extra(watch, item, place)) if is_sealing else None
+
+
+def refusal_said(said: Optional[seals.Said]) -> Optional[Refusal]:
+    return None if said is None else Refusal(*said)
 
 
 def refusal_of(watch: Watch, event: Event, attempt: Attempt, item: Item) -> Optional[Refusal]:
+    """The first row that refuses a lock or a compute; none where it goes on."""
+    if event.kind == 'compute':
+        return refusal_said(seals.compute_refusal(watch, item)) if item.operands[0] in watch.scenario.guests else None
     if event.kind == 'lockg':
         return context_refusal(watch, item)
     return page_refusal(watch, item, len(attempt.events) - bool(COMMANDS[item.word].states))
 
 
 def is_known(watch: Watch, event: Event, item: Item) -> bool:
-    """Whether scenario and report determine all that the tests of a lock look at: counters and metadata entries they don't."""
-    if COMMANDS[item.word].computes:
-        return False
+    """Whether scenario and report determine all that the tests of a lock or a compute look at."""
+    if event.kind != 'lock':
+        return True
     frame = int(event.deed[1])
-    return event.kind == 'lockg' or frame >= watch.scenario.frames or watch.facts_of(frame) is not None
+    return frame >= watch.scenario.frames or watch.facts_of(frame) is not None
 
 
 def row_of_status(event: Event) -> Optional[Row]:
     """The row by the status alone, where the tests aren't known."""
     table = codes.FIRMWARE_ROWS.get(int(event.outcome[1], 0), []) if len(event.outcome) > 1 else []
-    fitting = [row for row in table if (row in codes.CONTEXT) == (event.kind == 'lockg')]
+    asked = {'lockg': codes.CONTEXT, 'lock': codes.PAGE, 'compute': codes.COMPUTE}[event.kind]
+    fitting = [row for row in table if row in asked]
     return fitting[0] if len(fitting) == 1 else None
 
 
@@ -162,25 +172,26 @@ def fault(watch: Watch, event: Event, attempt: Attempt, item: Item, refusal: Opt
     deeds = deeds_of(item)
     place = len(attempt.events)
     if place >= len(deeds):
-        wanted = commit_of(watch, item)
+        wanted = commit_of(watch, attempt, item)
         if event.kind not in ('commit', 'commitg'):
             return 'the commit, since all locks are taken'
         return '' if wanted is None or ' '.join(event.deed + event.outcome) == wanted else '`%s`' % wanted
     if ' '.join(event.deed) != deeds[place]:
         return '`%s`' % deeds[place]
     expected = refusal.answer if refusal is not None else ''
-    if event.kind != 'compute' and is_known(watch, event, item) and expected != event.answer:
+    if is_known(watch, event, item) and expected != event.answer:
         return '`%s`' % expected if expected else 'let through'
     return ''
 
 
-def commit_of(watch: Watch, item: Item) -> Optional[str]:
+def commit_of(watch: Watch, attempt: Attempt, item: Item) -> Optional[str]:
     """The commit of a command with its outcome; nothing where the report alone tells its page."""
     frames = frames_of(item)
     if not frames:
         return 'commitg %d fw 0x0' % item.operands[0]
-    if COMMANDS[item.word].computes:
-        return None
+    if item.word in seals.SEALS:
+        deed = seals.commit_deed(watch, item, attempt.made)
+        return None if deed is None else deed + ' fw 0x0'
     named, told = (frames[-1], watch.facts_of(frames[0]))
     if told is None:
         return None
@@ -203,8 +214,8 @@ def lock_words(watch: Watch, event: Event, item: Item) -> str:
 
 def commit_words(watch: Watch, item: Item) -> str:
     """What a commit changes."""
-    return '%s; the locks are released' % COMMIT_WORDS[item.word](watch, item) if item.word in COMMIT_WORDS else \
-        'the change is made; the locks are released'
+    words = seals.commit_words if item.word in seals.SEALS else COMMIT_WORDS[item.word]
+    return '%s; the locks are released' % words(watch, item)
 
 
 def create_words(watch: Watch, item: Item) -> str:

@@ -1,16 +1,18 @@
 """What scenario and report together say of the machine at each event: the RMP entries, the locks, the guests, the open attempts.
 
-This follows the report and computes no run: words of memory are those that the report shows. A fact that the two don't
-determine is None.
+This follows the report and computes no run: it makes no event of its own, and asks of each one of the report what it finds and
+changes. A fact that the two don't determine is None.
 """
 from __future__ import annotations
 
 from dataclasses import dataclass, field, replace
 from typing import Any, Callable, Dict, List, Optional, Tuple
 
+from . import seals
 from .entries import FREE, LARGE, RECLAIM, Entries, Facts, Marks, frames_from, meet
+from .pages import Content, Entry, Memory, Table, Words
 from .report import Event
-from .scenario import FRAMES_OF, Actor, Item, Scenario
+from .scenario import Actor, Item, Scenario
 from .texts import page_of
 
 ADDRESS_BITS = 0x0000FFFFFFFFF000
@@ -39,7 +41,7 @@ class Attempt:
     is_private: bool = True
     is_final: bool = False
     leaf_is_large: bool = False
-    extra: Dict[str, int] = field(default_factory=dict)
+    made: Optional[seals.Made] = None
 
 
 @dataclass
@@ -52,7 +54,10 @@ class Watch:
     states: Dict[int, str] = field(default_factory=dict)
     bound: Dict[int, bool] = field(default_factory=dict)
     attempts: Dict[int, Attempt] = field(default_factory=dict)
-    entries: Dict[Tuple[int, int], Optional[Facts]] = field(default_factory=dict)
+    memory: Memory = field(default_factory=Memory)
+    counters: Dict[int, int] = field(default_factory=dict)
+    roots: Dict[int, Optional[Entry]] = field(default_factory=dict)
+    archive: Dict[Tuple[int, int], Content] = field(default_factory=dict)
     last_write: Dict[Tuple[int, int], int] = field(default_factory=dict)
     commits: Dict[int, Event] = field(default_factory=dict)
     last_change: Marks = field(default_factory=Marks)
@@ -63,10 +68,13 @@ class Watch:
         for guest in self.scenario.guests.values():
             self.states[guest.number] = 'running' if guest.is_opened else 'absent'
             self.bound[guest.number] = guest.is_opened
+            self.counters[guest.number] = guest.counter
         for page in self.scenario.pages:
             asid = self.scenario.guests[page.guest].asid
             facts = Facts(True, page.is_large, False, page.gpn, asid, False, page.is_valid, page.permissions)
             self.rmp.put(frames_from(page.frame, page.is_large), facts)
+        for (frame, index), word in self.scenario.words.items():
+            self.memory.write(frame, index, word)
 
     def facts_of(self, frame: int) -> Optional[Facts]:
         return self.rmp.at(frame)
@@ -166,11 +174,13 @@ class Watch:
             self.take_lock(event)
         elif event.kind == 'lockg' and not event.outcome:
             self.contexts[int(event.deed[1])] = Lock(event.actor, range(0), event)
+        elif event.kind == 'compute' and not event.outcome:
+            self.take_compute(event, attempt)
         if event.outcome:
             if event.kind in ('commit', 'commitg') and event.is_good:
                 self.commit(event)
             if event.kind in ('data', 'host') and writes(event):
-                self.last_write[event.frame, event.place[1]] = event.number
+                self.take_write(event)
             self.release(event.actor)
             self.attempts.pop(event.actor, None)
 
@@ -184,6 +194,18 @@ class Watch:
         item = self.item_of(event)
         if item is not None:
             self.locks.append(Lock(event.actor, self.lock_frames(item, int(event.deed[1])), event))
+
+    def take_compute(self, event: Event, attempt: Attempt) -> None:
+        item = self.item_of(event)
+        if item is not None and item.word in seals.SEALS and item.operands[0] in self.scenario.guests:
+            attempt.made = seals.made_by(self, event, item)
+
+    def take_write(self, event: Event) -> None:
+        """The word that an access has written."""
+        item, (_, index) = self.item_of(event), event.place
+        self.last_write[event.frame, index] = event.number
+        if item is not None and item.word in WRITTEN:
+            self.memory.write(event.frame, index, WRITTEN[item.word](item, self.memory.word(event.frame, index)))
 
     def take_table(self, event: Event, attempt: Attempt) -> None:
         """The guest walk behind a table's word that let it go on."""
@@ -216,10 +238,17 @@ class Watch:
         item, actor = self.item_of(event), self.actor_of(event)
         if item is None or actor is None:
             return
-        refilled = REFILLS[item.word](self, item) if item.word in REFILLS else {}
+        attempt = self.attempts.get(event.actor)
+        made = attempt.made if attempt is not None else None
+        if item.word in seals.SEALS:
+            refilled = seals.refills(self, item, made, ZEROED)
+        else:
+            refilled = REFILLS[item.word](self, item) if item.word in REFILLS else {}
         change = COMMITS.get(item.word)
         if change is not None:
             change(self, event, item, actor)
+        elif made is not None:
+            seals.commit(self, event, item, made)
         for frames, words in refilled.items():
             self.commits[event.number] = event
             self.last_refill.put(frames, event.number)
@@ -237,10 +266,6 @@ class Watch:
         """What a commit did to all words of a frame."""
         of_page = [words for (event, first), words in self.refills.items() if event == number and first in (frame, frame - frame % LARGE)]
         return of_page[-1] if of_page else 'took the frame from its owner, and its words became zero'
-
-    def clears(self, number: int, frame: int) -> bool:
-        """Whether a commit that changed the words of a frame made them zero."""
-        return self.refilled(number, frame).endswith(ZEROED)
 
 
 ZEROED = 'words became zero'
@@ -263,15 +288,15 @@ def refills_of_reclaim(watch: Watch, item: Item) -> Dict[range, str]:
     return {watch.page_frames(item.operands[0]): 'took the frame back from the firmware, and its ' + ZEROED}
 
 
-def refills_of_swap(watch: Watch, item: Item) -> Dict[range, str]:
-    return {only(item.operands[place - 1]): 'changed the words of this frame' for place in FRAMES_OF[item.word]}
-
-
 # Which frames' words a command of the firmware changes as a whole, and how; told before its commit.
 REFILLS: Dict[str, Callable[[Watch, Item], Dict[range, str]]] = {
     'launch_update': refills_of_launch, 'page_move': refills_of_move, 'page_reclaim': refills_of_reclaim,
-    'md_init': lambda watch, item: {only(item.operands[0]): 'made a metadata page of the frame, and its ' + ZEROED},
-    **{word: refills_of_swap for word in ('swap_out', 'swap_in', 'md_out', 'md_in', 'md_root_out', 'md_root_in')}}
+    'md_init': lambda watch, item: {only(item.operands[0]): 'made a metadata page of the frame, and its ' + ZEROED}}
+
+# The word that an item writes, by the word before it.
+WRITTEN: Dict[str, Callable[[Item, int], int]] = {
+    'store': lambda item, old: item.operands[1], 'swap': lambda item, old: item.operands[1],
+    'xor': lambda item, old: old ^ item.operands[1], 'cas': lambda item, old: item.operands[2]}
 
 
 def writes(event: Event) -> bool:
@@ -292,6 +317,7 @@ def commit_update(watch: Watch, event: Event, item: Item, actor: Actor) -> None:
     # a range of 2 MB is assigned as a whole, or none of its frames is
     if old is not None and old.assigned:
         watch.last_refill.put(item.frames, event.number)
+        watch.memory.clear(item.frames)
 
 
 def makes_immutable(item: Item, old: Facts) -> bool:
@@ -336,6 +362,8 @@ def event_frame(event: Event) -> int:
 
 def commit_launch(watch: Watch, event: Event, item: Item, actor: Actor) -> None:
     watch.change(only(item.operands[1]), event, immutable=False, validated=True, permissions=(15,) + item.operands[4:7])
+    if item.operands[2] == 3:
+        watch.memory.clear(only(item.operands[1]))
 
 
 def commit_context(watch: Watch, event: Event, item: Item, actor: Actor) -> None:
@@ -350,34 +378,16 @@ def commit_context(watch: Watch, event: Event, item: Item, actor: Actor) -> None
 
 
 def commit_metadata(watch: Watch, event: Event, item: Item, actor: Actor) -> None:
-    """A page becomes a metadata page, or an empty one of the firmware."""
-    frame = item.operands[0] if item.word == 'md_init' else item.operands[2 if item.word.endswith('in') else 1]
-    out = item.word.endswith('out')
-    watch.change(only(frame), event, kind='Firmware' if out else 'Metadata')
-    for entry in [entry for entry in watch.entries if entry[0] == frame]:
-        del watch.entries[entry]
+    watch.change(only(item.operands[0]), event, kind='Metadata')
+    watch.memory.put(item.operands[0], Table())
 
 
 def commit_move(watch: Watch, event: Event, item: Item, actor: Actor) -> None:
     _, source, target = item.operands
     watch.put(only(target), event, watch.facts_of(source))
+    watch.memory.put(target, watch.memory.at(source))
+    watch.memory.put(source, Words())
     watch.change(only(source), event, vmsa=False, validated=False, immutable=True, permissions=(15, 0, 0, 0))
-
-
-def commit_swap_out(watch: Watch, event: Event, item: Item, actor: Actor) -> None:
-    _, source, _, page, entry = item.operands
-    watch.entries[page, entry] = watch.facts_of(source)
-    watch.put(only(source), event, RECLAIM)
-
-
-def commit_swap_in(watch: Watch, event: Event, item: Item, actor: Actor) -> None:
-    _, _, target, page, entry = item.operands
-    kept = watch.entries.pop((page, entry), None)
-    old = watch.facts_of(target)
-    if kept is None or old is None:
-        watch.put(only(target), event, None)
-        return
-    watch.put(only(target), event, replace(old, gpn=kept.gpn, validated=kept.validated, vmsa=kept.vmsa, permissions=kept.permissions))
 
 
 def commit_reclaim(watch: Watch, event: Event, item: Item, actor: Actor) -> None:
@@ -387,6 +397,7 @@ def commit_reclaim(watch: Watch, event: Event, item: Item, actor: Actor) -> None
         return
     if facts.asid == 0:
         watch.put(frames, event, replace(RECLAIM, is_large=facts.is_large))
+        watch.memory.clear(frames)
     else:
         watch.change(frames, event, immutable=False)
 
@@ -394,7 +405,5 @@ def commit_reclaim(watch: Watch, event: Event, item: Item, actor: Actor) -> None
 COMMITS = {
     'rmpupdate': commit_update, 'psmash': commit_smash, 'pvalidate': commit_validate, 'rmpadjust': commit_adjust,
     'gctx_create': commit_context, 'activate': commit_context, 'launch_start': commit_context, 'launch_finish': commit_context,
-    'launch_update': commit_launch, 'md_init': commit_metadata, 'md_in': commit_metadata, 'md_root_in': commit_metadata,
-    'md_out': commit_metadata, 'md_root_out': commit_metadata, 'page_move': commit_move, 'swap_out': commit_swap_out,
-    'swap_in': commit_swap_in, 'page_reclaim': commit_reclaim,
+    'launch_update': commit_launch, 'md_init': commit_metadata, 'page_move': commit_move, 'page_reclaim': commit_reclaim,
 }

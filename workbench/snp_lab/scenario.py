@@ -1,4 +1,4 @@
-"""Scenarios as `snp` reads them, and the forms to come.
+"""Scenarios as `snp` reads them.
 
 The reader is here to understand a scenario, and `snp` alone decides what is one: it complains of what it can't follow, and
 leaves ranges, alignment and limits to the program.
@@ -39,6 +39,8 @@ class Guest:
     number: int
     asid: int
     is_opened: bool
+    counter: int
+    key: bytes
 
 
 @dataclass(frozen=True)
@@ -134,7 +136,8 @@ def read_guest(line: Line, scenario: Scenario) -> None:
         line.fail('guests are numbered from 1 on: this one should be %d' % (len(scenario.guests) + 1))
     if len(words[8]) != 64 or set(words[8]) - set('0123456789abcdef'):
         line.fail('a key is 64 lower-case hex digits')
-    scenario.guests[number] = Guest(number, need_number(line, words[4], 'the ASID', 1, 1023), kind == 'opened')
+    asid, counter = need_number(line, words[4], 'the ASID', 1, 1023), need_number(line, words[6], 'the counter')
+    scenario.guests[number] = Guest(number, asid, kind == 'opened', counter, bytes.fromhex(words[8]))
 
 
 def read_page(line: Line, scenario: Scenario) -> None:

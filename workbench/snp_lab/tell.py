@@ -4,13 +4,13 @@ from __future__ import annotations
 from dataclasses import dataclass, field
 from typing import Callable, Dict, List, Optional, Tuple
 
-from . import codes, commands, updates
+from . import codes, commands, seals, updates
 from .codes import Row
 from .entries import Facts
 from .machine import Attempt, Watch, entry_frame
 from .report import Event
 from .scenario import ACCESSES, Actor, Item, Scenario
-from .texts import number_of, page_of
+from .texts import hex_of, number_of, page_of
 
 Decision = Tuple[Optional[Row], str]
 
@@ -249,9 +249,10 @@ class Teller:
         key = (event.frame, event.place[1])
         written = self.watch.last_write.get(key)
         refill = self.watch.refill_words(event.frame, -1 if written is None else written)
+        stands = hex_of(self.watch.memory.word(*key))
+        if event.outcome[1] != stands:
+            told.misfit = 'by the scenario this word should be %s: %s' % (stands, APART)
         if refill:
-            if self.watch.clears(self.watch.last_refill.at(event.frame) or 0, event.frame) and event.outcome[1] != '0x0':
-                told.misfit = 'by the scenario this word should be 0x0: %s' % APART
             return None, refill
         if written is not None:
             return None, 'event %d wrote this word' % written
@@ -287,14 +288,14 @@ class Teller:
         return None if item.word in commands.COMMANDS else self.validate_words(event, attempt, actor, item)
 
     def decide_command(self, told: Told, attempt: Attempt, item: Item) -> None:
-        """The row that refused a lock of a command; an event that the scenario doesn't give is a misfit."""
+        """The row that refused a lock or a compute of a command; an event that the scenario doesn't give is a misfit."""
         event = told.event
         refusal: Optional[commands.Refusal] = None
-        if event.kind in ('lock', 'lockg') and ' '.join(event.deed) in commands.deeds_of(item)[len(attempt.events):len(attempt.events) + 1]:
+        if event.kind in ('lock', 'lockg', 'compute') and ' '.join(event.deed) in commands.deeds_of(item)[len(attempt.events):len(attempt.events) + 1]:
             refusal = commands.refusal_of(self.watch, event, attempt, item)
         if refusal is not None and refusal.answer == event.answer:
             told.decided, told.because = str(refusal.row), refusal.because
-        elif event.outcome and not event.is_good and event.kind in ('lock', 'lockg'):
+        elif event.outcome and not event.is_good and event.kind in ('lock', 'lockg', 'compute'):
             told.decided = str(commands.row_of_status(event) or '')
         fault = commands.fault(self.watch, event, attempt, item, refusal)
         if fault:
@@ -435,12 +436,15 @@ def tell_commit(teller: Teller, told: Told, attempt: Attempt, actor: Actor, item
     if item.word in updates.INSTRUCTIONS:
         told.words.append(updates.commit_words(teller.watch, item))
         return
+    if told.event.kind == 'commitg':
+        return
     told.words.append('frame %s, page %s, %s: the change is made' % (
         told.event.deed[1], told.event.deed[2], '2 MB' if told.event.deed[3] == '2m' else '4 KB'))
 
 
 def tell_compute(teller: Teller, told: Told, attempt: Attempt, actor: Actor, item: Item) -> None:
-    told.words.append('the page is copied and %s' % ('opened' if item.word.endswith('in') else 'sealed'))
+    if item.word in seals.SEALS and item.operands[0] in teller.scenario.guests:
+        told.words += seals.compute_words(teller.watch, told.event, item)
 
 
 def tell_skip(teller: Teller, told: Told, attempt: Attempt, actor: Actor, item: Item) -> None:

@@ -3,8 +3,8 @@
 Two events of different actors commute where neither changes what the other one looks at: what an actor does next depends on
 its own part and on what it reads. Each access and each read of a walk looks at the entry of its frame. An RMPUPDATE or PSMASH
 looks at entries and locks as it takes its lock; its commit changes entries, words and locks. A command of the firmware does so
-with its guest's context too, whose state the begin of a guest's item looks at. Accesses and walks ignore locks. What the
-instructions of guests do, and the commands that seal and open pages, is held to touch everything.
+with its guest's context too, whose state the begin of a guest's item looks at; a compute reads a whole page, and is held to change
+it. Accesses and walks ignore locks. What the instructions of guests do is held to touch everything.
 """
 from __future__ import annotations
 
@@ -74,7 +74,7 @@ def touch_of(scenario: Scenario, event: Event, has_firmware: bool) -> Touch:
     item = scenario.actors[event.actor].items[event.item]
     if item.word in INSTRUCTIONS:
         return update_touch(scenario, event, item)
-    if item.word in COMMANDS and not COMMANDS[item.word].computes:
+    if item.word in COMMANDS:
         return command_touch(scenario, event, item)
     if event.kind not in ('npt', 'gpt', 'data', 'host'):
         return EVERYTHING
@@ -117,6 +117,10 @@ def command_touch(scenario: Scenario, event: Event, item: Item) -> Touch:
     if event.kind in ('commit', 'commitg'):
         return Touch(looks=ranges, changes=ranges, asks=ranges, takes=ranges, sees=guests, turns=guests, asks_contexts=guests,
                      takes_contexts=guests)
+    if event.kind == 'compute':
+        released = (ranges, guests) if event.outcome else ((), NO_GUESTS)
+        return Touch(looks=ranges, changes=ranges[:1], asks=ranges, takes=released[0], sees=guests, asks_contexts=guests,
+                     takes_contexts=released[1])
     if event.kind == 'lockg':
         return Touch(sees=guests, asks_contexts=guests, takes_contexts=NO_GUESTS if event.outcome else guests)
     if event.outcome:
@@ -166,7 +170,7 @@ def item_bound(scenario: Scenario, actor: Actor, item: Item) -> Bound:
         return Bound()
     if item.word in INSTRUCTIONS:
         return Bound(updates=frozenset([item.frames] if bad_operands(item, scenario.frames) is None else []))
-    if item.word in COMMANDS and not COMMANDS[item.word].computes:
+    if item.word in COMMANDS:
         return Bound(updates=frozenset(command_ranges(scenario, item)), contexts=command_guests(scenario, item))
     if item.word not in ACCESSES:
         return Bound(everything=True)
