@@ -10,6 +10,8 @@ mod item_tests;
 pub mod laws;
 mod reading;
 mod rows;
+#[cfg(test)]
+mod sealing_tests;
 mod steps;
 mod taken;
 #[cfg(test)]

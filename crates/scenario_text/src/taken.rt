@@ -2,12 +2,11 @@ ghost use Rattle.std.specs.Prelude.{◌≡◌, ℕ, ◌+◌, ◌<◌, ◌≤◌,
 ghost use Rattle.std.specs.List.{list_any, range_with_len};
 ghost use Rattle.std.specs.HashSet.{contains};
 ghost use Rattle.snp_model.specs.declared.scenario.PageSpec.{PageSpec};
-ghost use Rattle.snp_model.specs.Facts.{frames_in};
 ghost use Rattle.snp_model.specs.Locks.{in_range};
 ghost use Rattle.snp_model.specs.ScenarioLines.{collide};
 ghost use Rattle.scenario_text.specs.Pages.{same_gpn, frame_taken, gpn_taken, Knows};
 
-use snp_model::{PageSize, PageSpec};
+use snp_model::PageSpec;
 use std::alloc::{AllocError, Global};
 use std::collections::HashSet;
 
@@ -36,7 +35,7 @@ impl Taken {
         requires { page.now.gpn < 2 ^ 36 }
         ensures { (pages : List PageSpec) → Knows self.now pages → result ≡ list_any (collide page.now) pages }
     {
-        let count = frames_in(page.size);
+        let count = page.size.frames() as usize;
         self.has_frames(page.frame as usize, count)
             || self.has_gpns(page.guest, page.gpn, count as u64)
     }
@@ -84,21 +83,10 @@ impl Taken {
         requires { page.now.gpn < 2 ^ 36 }
         ensures { OnOk result ((pages : List PageSpec) → Knows self.old pages → Knows self.new (pages ++ page.now ∷ [])) }
     {
-        let count = frames_in(page.size);
+        let count = page.size.frames() as usize;
         take_frames(&mut self.frames, page.frame as usize, count)?;
         take_gpns(&mut self.gpns, page.guest, page.gpn, count as u64)?;
         Ok(())
-    }
-}
-
-// How many frames a page has.
-fn frames_in(size: PageSize) -> usize
-    ensures frames { result ≡ frames_in size }
-    ensures most { result ≤ 512 }
-{
-    match size {
-        PageSize::Small => 1,
-        PageSize::Large => 512,
     }
 }
 

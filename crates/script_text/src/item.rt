@@ -15,6 +15,7 @@ ghost use Rattle.snp_model.specs.ItemLines.{
   access_item,
   cpu_item,
   host_item,
+  sealing_item,
   firmware_item,
   item_words,
   item_line,
@@ -26,6 +27,9 @@ use crate::commands::{
 };
 use crate::instructions::{read_adjust, read_smash, read_update, read_validate};
 use crate::number::{is_word, multiple, read_below, read_fixed, read_number, read_ranged};
+use crate::sealing::{
+    read_metadata_in, read_metadata_out, read_root_in, read_root_out, read_swap_in, read_swap_out,
+};
 use crate::words::Words;
 use snp_model::{Item, Line, Op, Reason, Role, SkipTest};
 
@@ -236,6 +240,28 @@ fn read_host_item(frames: u32, words: &Words<'_>) -> Result<Line, Reason>
     }
 }
 
+// The commands that seal or open a page, and the items of every role.
+#[tactic(auto, unfolding(snp_model::specs::ItemLines::sealing_item))]
+fn read_sealing_item(words: &Words<'_>) -> Result<Line, Reason>
+    ensures { result ≡ sealing_item words.now }
+{
+    if words.is_retry_row(b"swap_out", 6) {
+        with_retries(words, 6, read_swap_out(words))
+    } else if words.is_retry_row(b"swap_in", 6) {
+        with_retries(words, 6, read_swap_in(words))
+    } else if words.is_retry_row(b"md_out", 6) {
+        with_retries(words, 6, read_metadata_out(words))
+    } else if words.is_retry_row(b"md_in", 6) {
+        with_retries(words, 6, read_metadata_in(words))
+    } else if words.is_retry_row(b"md_root_out", 4) {
+        with_retries(words, 4, read_root_out(words))
+    } else if words.is_retry_row(b"md_root_in", 4) {
+        with_retries(words, 4, read_root_in(words))
+    } else {
+        read_skip_item(words)
+    }
+}
+
 // The items of a firmware actor.
 #[tactic(auto, unfolding(snp_model::specs::ItemLines::firmware_item))]
 fn read_firmware_item(words: &Words<'_>) -> Result<Line, Reason>
@@ -258,7 +284,7 @@ fn read_firmware_item(words: &Words<'_>) -> Result<Line, Reason>
     } else if words.is_retry_row(b"page_reclaim", 2) {
         with_retries(words, 2, read_reclaim(words))
     } else {
-        read_skip_item(words)
+        read_sealing_item(words)
     }
 }
 

@@ -19,9 +19,10 @@ use Rattle.snp_model.specs.declared.scenario.Paging.{Paging}
 use Rattle.snp_model.specs.declared.scenario.Role.{Role}
 use Rattle.snp_model.specs.declared.scenario.Role.TheVariants.{Cpu, Host, Firmware}
 use Rattle.snp_model.specs.Bounds.{AreOperationWords, IsCpuItem, IsFirmwareCommand, IsGuestNumber, IsSkip, IsUpdate, IsItemOf, IsLineOf}
-use Rattle.snp_model.specs.ItemLines.{once, address_word, load_row, store_row, swap_row, cas_row, xor_row, skip_test, skip_row, skip_value_row, skip_item, access_item, size_word, flag_word, is_retry_row, retries_word, update_operands, update_row, smash_row, validate_row, adjust_operands, adjust_row, cpu_item, host_item, guest_word, create_operands, activate_operands, start_operands, launch_operands, finish_operands, init_operands, move_operands, reclaim_operands, command_row, firmware_item, item_words}
+use Rattle.snp_model.specs.ItemLines.{once, address_word, load_row, store_row, swap_row, cas_row, xor_row, skip_test, skip_row, skip_value_row, skip_item, access_item, size_word, flag_word, is_retry_row, retries_word, update_operands, update_row, smash_row, validate_row, adjust_operands, adjust_row, cpu_item, host_item, guest_word, create_operands, activate_operands, start_operands, launch_operands, finish_operands, init_operands, move_operands, swap_out_operands, swap_in_operands, reclaim_operands, metadata_out_operands, metadata_in_operands, root_out_operands, root_in_operands, command_row, sealing_item, firmware_item, item_words}
 use Rattle.snp_model.specs.Lines.{◌>>=◌, ◌>>◌, below, fixed, is_row, multiple, number, ranged, word}
 use Rattle.snp_model.proofs.LineLaws.{below_multiple_ok, below_ok, bind_ok, multiple_ok, number_ok, ranged_ok, select, then_ok}
+use Rattle.snp_model.proofs.SealingSoundLaws.{swap_out_ok, swap_in_ok, metadata_out_ok, metadata_in_ok, root_out_ok, root_in_ok}
 
 err_not_ok : (reason : Reason) (line : Line) → Err reason ≡ Ok line → ⊥
 err_not_ok reason line h = cc
@@ -334,12 +335,31 @@ command_row_ok frames ws count operands line are h =
     let same : made ≡ line = let e = retries.2 in cc in
     subst (IsLineOf frames Firmware) same (record { item = are command.0 command.1; retries = retries_ok ws count retries.0 retries.1 })
 
+sealing_item_ok : (frames : ℕ) (ws : List (List ℕ)) (line : Line) → sealing_item ws ≡ Ok line → IsLineOf frames Firmware line
+unfolding sealing_item
+sealing_item_ok frames ws line h =
+    let P = IsLineOf frames Firmware line in
+    let row : List ℕ → ℕ → Result Command Reason → Result Line Reason → Result Line Reason = λ name count operands other. cond (is_retry_row ws name count) (command_row ws count operands) other in
+    let root_in = row (codes "md_root_in") 4 (root_in_operands ws) (skip_item ws) in
+    let root_out = row (codes "md_root_out") 4 (root_out_operands ws) root_in in
+    let metadata_in = row (codes "md_in") 6 (metadata_in_operands ws) root_out in
+    let metadata_out = row (codes "md_out") 6 (metadata_out_operands ws) metadata_in in
+    let swap_in = row (codes "swap_in") 6 (swap_in_operands ws) metadata_out in
+    let is : (count : ℕ) (operands : Result Command Reason) → ((command : Command) → operands ≡ Ok command → IsFirmwareCommand command) → command_row ws count operands ≡ Ok line → P = λ count operands are made. command_row_ok frames ws count operands line are made in
+    select (is_retry_row ws (codes "swap_out") 6) (command_row ws 6 (swap_out_operands ws)) swap_in line P (λ _ made. is 6 (swap_out_operands ws) (λ command. swap_out_ok IsFirmwareCommand ws command (λ g s t m e guest entry. (guest, entry))) made)
+    (λ _ h1. select (is_retry_row ws (codes "swap_in") 6) (command_row ws 6 (swap_in_operands ws)) metadata_out line P (λ _ made. is 6 (swap_in_operands ws) (λ command. swap_in_ok IsFirmwareCommand ws command (λ g s t m e guest entry. (guest, entry))) made)
+    (λ _ h2. select (is_retry_row ws (codes "md_out") 6) (command_row ws 6 (metadata_out_operands ws)) metadata_in line P (λ _ made. is 6 (metadata_out_operands ws) (λ command. metadata_out_ok IsFirmwareCommand ws command (λ g s t m e guest entry. (guest, entry))) made)
+    (λ _ h3. select (is_retry_row ws (codes "md_in") 6) (command_row ws 6 (metadata_in_operands ws)) root_out line P (λ _ made. is 6 (metadata_in_operands ws) (λ command. metadata_in_ok IsFirmwareCommand ws command (λ g s t m e guest entry. (guest, entry))) made)
+    (λ _ h4. select (is_retry_row ws (codes "md_root_out") 4) (command_row ws 4 (root_out_operands ws)) root_in line P (λ _ made. is 4 (root_out_operands ws) (λ command. root_out_ok IsFirmwareCommand ws command (λ g s t guest. guest)) made)
+    (λ _ h5. select (is_retry_row ws (codes "md_root_in") 4) (command_row ws 4 (root_in_operands ws)) (skip_item ws) line P (λ _ made. is 4 (root_in_operands ws) (λ command. root_in_ok IsFirmwareCommand ws command (λ g s t guest. guest)) made)
+    (λ _ h6. skip_item_ok frames Firmware ws line h6) h5) h4) h3) h2) h1) h
+
 firmware_item_ok : (frames : ℕ) (ws : List (List ℕ)) (line : Line) → firmware_item ws ≡ Ok line → IsLineOf frames Firmware line
 unfolding firmware_item
 firmware_item_ok frames ws line h =
     let P = IsLineOf frames Firmware line in
     let row : List ℕ → ℕ → Result Command Reason → Result Line Reason → Result Line Reason = λ name count operands other. cond (is_retry_row ws name count) (command_row ws count operands) other in
-    let reclaim = row (codes "page_reclaim") 2 (reclaim_operands ws) (skip_item ws) in
+    let reclaim = row (codes "page_reclaim") 2 (reclaim_operands ws) (sealing_item ws) in
     let move = row (codes "page_move") 4 (move_operands ws) reclaim in
     let init = row (codes "md_init") 2 (init_operands ws) move in
     let finish = row (codes "launch_finish") 2 (finish_operands ws) init in
@@ -354,8 +374,8 @@ firmware_item_ok frames ws line h =
     (λ _ h4. select (is_retry_row ws (codes "launch_finish") 2) (command_row ws 2 (finish_operands ws)) init line P (λ _ made. is 2 (finish_operands ws) (finish_ok ws) made)
     (λ _ h5. select (is_retry_row ws (codes "md_init") 2) (command_row ws 2 (init_operands ws)) move line P (λ _ made. is 2 (init_operands ws) (init_ok ws) made)
     (λ _ h6. select (is_retry_row ws (codes "page_move") 4) (command_row ws 4 (move_operands ws)) reclaim line P (λ _ made. is 4 (move_operands ws) (move_ok ws) made)
-    (λ _ h7. select (is_retry_row ws (codes "page_reclaim") 2) (command_row ws 2 (reclaim_operands ws)) (skip_item ws) line P (λ _ made. is 2 (reclaim_operands ws) (reclaim_ok ws) made)
-    (λ _ h8. skip_item_ok frames Firmware ws line h8) h7) h6) h5) h4) h3) h2) h1) h
+    (λ _ h7. select (is_retry_row ws (codes "page_reclaim") 2) (command_row ws 2 (reclaim_operands ws)) (sealing_item ws) line P (λ _ made. is 2 (reclaim_operands ws) (reclaim_ok ws) made)
+    (λ _ h8. sealing_item_ok frames ws line h8) h7) h6) h5) h4) h3) h2) h1) h
 
 pub item_ok : (frames : ℕ) (role : Role) (ws : List (List ℕ)) (line : Line) → item_words role frames ws ≡ Ok line → IsLineOf frames role line
 item_ok frames (Cpu guest vmpl npt paging) ws line h = cpu_item_ok frames guest vmpl npt paging ws line h

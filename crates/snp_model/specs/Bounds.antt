@@ -85,7 +85,7 @@ pub record IsLaunchedWith (perms : List ℕ) : Type 0 where
   pub three : length perms ≡ 3
   pub below : AllByRecursion (λ p. p < 16) perms
 
--- a command of the firmware, whose frames are any numbers; no scenario has the six yet that seal and open pages
+-- a command of the firmware, whose frames are any numbers
 abbrev pub IsFirmwareCommand : Command → Type 0
 IsFirmwareCommand (commands.GctxCreate guest frame) = IsGuestNumber guest
 IsFirmwareCommand (commands.Activate guest asid) = IsGuestNumber guest × (asid < 1024)
@@ -94,13 +94,13 @@ IsFirmwareCommand (commands.LaunchUpdate guest frame page_type imi perms) = IsGu
 IsFirmwareCommand (commands.LaunchFinish guest) = IsGuestNumber guest
 IsFirmwareCommand (commands.MdInit frame) = Unit {0}
 IsFirmwareCommand (commands.PageMove guest source target) = IsGuestNumber guest
-IsFirmwareCommand (commands.SwapOut guest source target metadata entry) = ⊥
-IsFirmwareCommand (commands.SwapIn guest source target metadata entry) = ⊥
+IsFirmwareCommand (commands.SwapOut guest source target metadata entry) = IsGuestNumber guest × (entry < 64)
+IsFirmwareCommand (commands.SwapIn guest source target metadata entry) = IsGuestNumber guest × (entry < 64)
 IsFirmwareCommand (commands.Reclaim frame) = Unit {0}
-IsFirmwareCommand (commands.MdOut guest source target metadata entry) = ⊥
-IsFirmwareCommand (commands.MdIn guest source target metadata entry) = ⊥
-IsFirmwareCommand (commands.MdRootOut guest source target) = ⊥
-IsFirmwareCommand (commands.MdRootIn guest source target) = ⊥
+IsFirmwareCommand (commands.MdOut guest source target metadata entry) = IsGuestNumber guest × (entry < 64)
+IsFirmwareCommand (commands.MdIn guest source target metadata entry) = IsGuestNumber guest × (entry < 64)
+IsFirmwareCommand (commands.MdRootOut guest source target) = IsGuestNumber guest
+IsFirmwareCommand (commands.MdRootIn guest source target) = IsGuestNumber guest
 
 -- an item of a firmware actor
 abbrev pub IsFirmwareItem : Item → Type 0

@@ -338,7 +338,7 @@ firmware_item ws =
     else if is_retry_row ws (codes "md_init") 2 then command_row ws 2 (init_operands ws)
     else if is_retry_row ws (codes "page_move") 4 then command_row ws 4 (move_operands ws)
     else if is_retry_row ws (codes "page_reclaim") 2 then command_row ws 2 (reclaim_operands ws)
-    else skip_item ws
+    else sealing_item ws
 
 -- the words of an item of an actor with this role
 abbrev pub item_words : Role → ℕ → List (List ℕ) → Result Line Reason

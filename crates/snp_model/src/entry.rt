@@ -1,5 +1,5 @@
-ghost use Rattle.std.specs.Prelude.{◌≡◌};
-ghost use Rattle.snp_model.specs.Facts.{free_entry};
+ghost use Rattle.std.specs.Prelude.{◌≡◌, ◌≤◌};
+ghost use Rattle.snp_model.specs.Facts.{frames_in, free_entry};
 
 /// The size of a page in the RMP or of the leaf of a nested walk (APM volume 2, 15.36.3).
 #[derive(Clone, Copy, Debug, Default, PartialEq, Eq)]
@@ -9,6 +9,19 @@ pub enum PageSize {
     Small,
     /// 2 MB, 512 frames of one region.
     Large,
+}
+
+impl PageSize {
+    /// How many frames of 4 KB a page of this size has.
+    pub fn frames(self) -> u32
+        ensures frames { result ≡ frames_in self }
+        ensures most { result ≤ 512 }
+    {
+        match self {
+            PageSize::Small => 1,
+            PageSize::Large => 512,
+        }
+    }
 }
 
 /// What an assigned page without a guest is used for. Firmware keeps this beside the RMP; the field is
