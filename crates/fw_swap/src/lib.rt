@@ -9,8 +9,10 @@ mod pages;
 mod sealing;
 #[cfg(test)]
 mod tests;
+mod words;
 
 pub use metadata::entry_test;
 pub use ownership::owned;
 pub use pages::{metadata_in, metadata_out, release, restore};
 pub use sealing::{seal_metadata, seal_page, unseal_page};
+pub use words::words_test;

@@ -20,7 +20,7 @@ pub fn owned(words: &[u64; 512], asid: u16) -> bool
 
 // Whether an entry with this first word has an ASID, if it is in use.
 #[tactic(auto, using(snp_model::proofs::MetadataLaws::owned_by_first))]
-fn is_owned(first: u64, asid: u16) -> bool
+pub(crate) fn is_owned(first: u64, asid: u16) -> bool
     ensures { (rest : List ℕ) → result ≡ is_owned asid (entry_from (page_bytes (first ∷ rest))) }
 {
     let [in_use, _, _, _, low, high, _, _] = first.to_le_bytes();

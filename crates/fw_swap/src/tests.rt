@@ -1,4 +1,4 @@
-//! The entry test by rows, sealed pages beside another AES-256-GCM, and what becomes of the pages of each command. What is
+//! The entry test and the test of a page's words by rows, sealed pages beside another AES-256-GCM, and what becomes of the pages of each command. What is
 //! sealed here was sealed by `cryptography`, Python's binding of OpenSSL, too: tags and words are its answers.
 ghost use Rattle.std.specs.Prelude.{◌≡◌, ◌<◌, None, Some};
 ghost use Rattle.snp_model.specs.declared.entry.PageSize.TheVariants.{Small};
@@ -6,13 +6,13 @@ ghost use Rattle.snp_model.specs.Firmware.{entry_of};
 
 use crate::{
     entry_test, metadata_in, metadata_out, owned, release, restore, seal_metadata, seal_page,
-    unseal_page,
+    unseal_page, words_test,
 };
 use guest_context::GuestContext;
 use meta_page::set;
 use phys_memory::Region;
 use rmp_table::RmpRegion;
-use snp_model::{Command, FwRefusal, GuestSpec, InUse, Kind, MetaEntry, PageSize, RmpEntry};
+use snp_model::{Command, FwRefusal, GuestSpec, InUse, Kind, MetaEntry, PageSize, Part, RmpEntry};
 use std::process::Abort;
 use std::test::Fail;
 
@@ -349,6 +349,99 @@ fn owners(rt: HostRuntime) {
         words[8 * 63 + 1] = 0x8_0000_0001;
         assert_eq!(rt; owned(&words, 7), want, "{first} {last}");
     }
+}
+
+// Another command that names no entry, whose source is a metadata page.
+#[tactic(auto, unfolding(snp_model::specs::Firmware::entry_of))]
+fn md_root_out() -> Command
+    ensures { entry_of result ≡ None }
+{
+    Command::MdRootOut {
+        guest: 1,
+        source: 9,
+        target: 11,
+    }
+}
+
+// What the words of slot 9 answer for guest 7: as the source of four commands, as a target, and as the metadata page of
+// three, which name entry 5.
+fn word_answers(memory: &Region, rmp: &RmpRegion) -> [Result<(), FwRefusal>; 8] {
+    [
+        words_test(memory, rmp, 9, &md_out(5), Part::Source, 7),
+        words_test(memory, rmp, 9, &md_root_out(), Part::Source, 7),
+        words_test(memory, rmp, 9, &swap_out(5), Part::Source, 7),
+        words_test(memory, rmp, 9, &md_in(5), Part::Source, 7),
+        words_test(memory, rmp, 9, &md_out(5), Part::Target, 7),
+        words_test(memory, rmp, 9, &md_out(5), Part::Metadata, 7),
+        words_test(memory, rmp, 9, &swap_in(5), Part::Metadata, 7),
+        words_test(memory, rmp, 9, &md_in(5), Part::Metadata, 7),
+    ]
+}
+
+#[test]
+fn word_tests(rt: HostRuntime) -> Result<(), Fail> {
+    let rmp = RmpRegion::free(rt.alloc())?;
+    let ok: Result<(), FwRefusal> = Ok(());
+    let invalid: Result<(), FwRefusal> = Err(FwRefusal::Status(0x1b));
+    let owner: Result<(), FwRefusal> = Err(FwRefusal::Status(0x1c));
+    // The first words of entries 5 and 63, and the answers.
+    for (first, last, want) in [
+        (0, 0, [ok, ok, ok, ok, ok, ok, invalid, invalid]),
+        // Both are guest 7's.
+        (
+            0x7_0000_0101,
+            0x7_0000_0201,
+            [ok, ok, ok, ok, ok, invalid, ok, invalid],
+        ),
+        (
+            0x7_0000_0201,
+            0x7_0000_0101,
+            [ok, ok, ok, ok, ok, invalid, invalid, ok],
+        ),
+        // One is another's.
+        (
+            0x7_0000_0201,
+            0x8_0000_0101,
+            [owner, owner, ok, ok, ok, invalid, invalid, ok],
+        ),
+        (
+            0x8_0000_0101,
+            0,
+            [owner, owner, ok, ok, ok, invalid, owner, invalid],
+        ),
+        (
+            0x8_0000_0201,
+            0,
+            [owner, owner, ok, ok, ok, invalid, invalid, owner],
+        ),
+        (
+            0x107_0000_0101,
+            0,
+            [owner, owner, ok, ok, ok, invalid, owner, invalid],
+        ),
+        // The two bytes behind the ASID don't count.
+        (
+            0x1_0007_0000_0101,
+            0,
+            [ok, ok, ok, ok, ok, invalid, ok, invalid],
+        ),
+        // Near an entry in use: the first byte is another.
+        (
+            0x8_0000_0100,
+            0x8_0000_0102,
+            [ok, ok, ok, ok, ok, ok, invalid, invalid],
+        ),
+    ] {
+        let mut memory = Region::zeroed(rt.alloc())?;
+        memory.store(9, 8 * 5, first);
+        memory.store(9, 8 * 63, last);
+        // No first words, and no words of the page.
+        memory.store(9, 8 * 63 + 1, 0x8_0000_0101);
+        memory.store(8, 8 * 5, 0x8_0000_0101);
+        memory.store(10, 0, 0x8_0000_0101);
+        assert!(rt; word_answers(&memory, &rmp) == want, "{first} {last}");
+    }
+    Ok(())
 }
 
 // What a command does with the page of slot 9.

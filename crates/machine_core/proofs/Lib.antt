@@ -5,6 +5,7 @@ pub mod BuildingLaws
 pub mod CommandLaws
 pub mod CommitLaws
 pub mod CommittedLaws
+pub mod ComputeLaws
 pub mod ContextEventLaws
 pub mod ContextsLaws
 pub mod CpuLaws
@@ -25,9 +26,12 @@ pub mod PhaseLaws
 pub mod RangeLaws
 pub mod ReadyLaws
 pub mod ReleaseLaws
+pub mod SealsLaws
 pub mod SeeingLaws
 pub mod SkipLaws
 pub mod SmashLaws
+pub mod SwapContextLaws
+pub mod SwapLaws
 pub mod TouchLaws
 pub mod UpdateLaws
 pub mod WalkingLaws

@@ -7,4 +7,5 @@ pub mod Machine
 pub mod Moves
 pub mod OwnLaws
 pub mod Ranges
+pub mod Seals
 pub mod Walks

@@ -8,7 +8,9 @@
 //!   processor need next; `page`: what PVALIDATE and RMPADJUST share.
 //! - `command`: what a command of the firmware needs next; `command_event`: its next event; `held_context`: the lock and the
 //!   commit of a guest's context; `firmware`: the lock of a page that it names; `launch`, `page_move`, `reclaim`, `metadata`:
-//!   its commits; `refusal`: the release of all that it has locked; `release`: that of an actor's locks in one region.
+//!   its commits; `sealing`: what it seals or opens; `compute`: its compute; `swap`, `swap_context`: what its commit then
+//!   changes of pages, and of its guest's context; `refusal`: the release of all that it has locked; `release`: that of an
+//!   actor's locks in one region.
 //! - `parts`: what is lent to an event; `bay`: one region of it; `reads`, `changes`: what an event reads of a region, and
 //!   what it reads and writes of one at once.
 //!
@@ -32,6 +34,7 @@ mod building;
 mod changes;
 mod command;
 mod command_event;
+mod compute;
 mod cpu;
 mod event;
 mod firmware;
@@ -48,9 +51,12 @@ mod reads;
 mod reclaim;
 mod refusal;
 mod release;
+mod sealing;
 mod shown;
 mod skip;
 mod smash;
+mod swap;
+mod swap_context;
 mod taken_lock;
 mod update;
 mod validate;
