@@ -14,4 +14,4 @@ mod tests;
 
 pub use commit::{context_commit, page_commit};
 pub use context::context_lock;
-pub use page::page_lock;
+pub use page::{page_lock, page_test};

@@ -1,4 +1,4 @@
-ghost use Rattle.std.specs.Prelude.{◌≡◌, ◌≢◌, ℕ, ◌<◌, Some, false, IsOk, IsErr};
+ghost use Rattle.std.specs.Prelude.{◌≡◌, ◌≢◌, ℕ, ◌<◌, Some, None, false, IsOk, IsErr};
 ghost use Rattle.snp_model.specs.declared.entry.PageSize.TheVariants.{Small};
 ghost use Rattle.snp_model.specs.Entries.{facts_at, holder_at, with_lock};
 ghost use Rattle.snp_model.specs.FirmwareLocks.{firmware_answer, page_refusal, takes_large};
@@ -9,13 +9,12 @@ ghost use Rattle.snp_model.specs.Verdicts.{is_large};
 use crate::status::{INVALID_PAGE_OWNER, INVALID_PAGE_SIZE, INVALID_PAGE_STATE};
 use page_states::{allowed, state_of};
 use rmp_table::RmpRegion;
-use snp_model::{Command, FwRefusal, InUse, PageSize, Part};
+use snp_model::{Command, FwRefusal, PageSize, Part};
 
 /// Locks the page in which a frame stands, for an actor, as this part of a command, with the tests; `asid` is that of the
 /// command's guest. A refusal is that of the first test that applies, and changes nothing: another actor holds the lock, the
 /// page is of 2 MB and the command isn't `page_reclaim` (0x19), its state isn't one that the command takes (0x1A), it has to
 /// be the guest's and isn't (0x1C). What the words of a page refuse is tested by `fw_swap`. Takes no memory.
-#[tactic(auto, unfolding(snp_model::specs::FirmwareLocks::page_refusal))]
 pub fn page_lock(
     rmp: &mut RmpRegion,
     command: &Command,
@@ -34,6 +33,31 @@ pub fn page_lock(
     ensures locked { IsOk result → holder_at rmp.new ≡ with_lock (page_lock (facts_at rmp.old slot).size slot) actor (holder_at rmp.old) }
     ensures refused { IsErr result → rmp.new ≡ rmp.old }
 {
+    match page_test(rmp, command, part, slot, asid) {
+        Err(refusal) => Err(refusal),
+        Ok(()) => {
+            // No actor holds it, so it is taken.
+            let _ = rmp.lock(slot, actor);
+            Ok(())
+        }
+    }
+}
+
+/// The tests of `page_lock` alone: what it would answer.
+#[tactic(auto, unfolding(snp_model::specs::FirmwareLocks::page_refusal))]
+pub fn page_test(
+    rmp: &RmpRegion,
+    command: &Command,
+    part: Part,
+    slot: usize,
+    asid: u16,
+) -> Result<(), FwRefusal>
+    requires { slot < 512 }
+    ensures answer { result ≡ firmware_answer (page_refusal command.now part (facts_at rmp.now slot) (holder_at rmp.now slot) asid) }
+    ensures holder { (holder : ℕ) → result ≡ Err (FwRefusal.InUse holder) → holder_at rmp.now slot ≡ Some holder }
+    ensures free { IsOk result → holder_at rmp.now slot ≡ None }
+    ensures small { IsOk result → takes_large command.now ≡ false → (facts_at rmp.now slot).size ≡ Small }
+{
     let entry = rmp.effective(slot);
     if let Some(holder) = rmp.holder(slot) {
         return Err(FwRefusal::InUse { holder });
@@ -47,10 +71,7 @@ pub fn page_lock(
     if has_owner(command, part) && entry.asid != asid {
         return Err(FwRefusal::Status(INVALID_PAGE_OWNER));
     }
-    match rmp.lock(slot, actor) {
-        Ok(()) => Ok(()),
-        Err(InUse { holder }) => Err(FwRefusal::InUse { holder }),
-    }
+    Ok(())
 }
 
 // Whether a page is of 2 MB.

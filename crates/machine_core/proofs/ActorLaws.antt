@@ -1,5 +1,5 @@
 -- The words that an actor keeps are those of its deeds.
-use Rattle.std.proofs.Common.{◌≡◌, ℕ, ◌+◌, ◌<◌, ◌≤◌, ◌^◌, true, List, [], ◌∷◌, ◌++◌, length, map, Some, None, refl, sym, ap, ◌∙◌, arith}
+use Rattle.std.proofs.Common.{◌≡◌, ℕ, ◌+◌, ◌<◌, ◌≤◌, ◌^◌, Bool, true, false, List, [], ◌∷◌, ◌++◌, length, map, Option, Some, None, IsSome, is_some, refl, sym, ap, ◌∙◌, arith}
 use Rattle.std.proofs.lemmas.List.{append-nil, length_push, length-map, map-append}
 use Rattle.snp_model.specs.declared.event.Deed.{Deed}
 use Rattle.snp_model.specs.declared.event.Deed.TheVariants as deeds
@@ -11,9 +11,14 @@ use Rattle.snp_model.specs.declared.event.Outcome.TheVariants as outcomes
 use Rattle.snp_model.specs.Step.{line_at, passed_over}
 use Rattle.snp_model.specs.Walking.{guest_words, nested_words_after, nested_words}
 use Rattle.snp_model.proofs.ShapeLaws.{guest_words_append, nested_words_append}
+use Rattle.machine_core.specs.declared.made_page.MadePage.{MadePage}
+use Rattle.machine_core.specs.declared.taken_lock.Taken.{Taken}
+use Rattle.machine_core.specs.declared.taken_lock.Taken.TheVariants.{Made, OfContext, OfPage}
 use Rattle.machine_core.specs.declared.taken_lock.TakenLock.{TakenLock}
-use Rattle.machine_core.specs.Actors.{page_lock_of, guest_words_with, nested_words_with, is_nested_read, IsActorState, IsBegun}
+use Rattle.machine_core.specs.Actors.{computed_of, made_in, page_lock_of, guest_words_with, nested_words_with, is_nested_read, IsActorState, IsBegun}
 use Rattle.snp_model.specs.Bounds.{IsGuestInside}
+use Rattle.snp_model.specs.State.{Standing}
+use Rattle.machine_core.specs.Moves.{with_made, with_taken}
 use Rattle.machine_core.specs.Walks.{stands_of}
 
 guest_words_one : (words : List ℕ) (deed : Deed) → words ++ guest_words (deed ∷ []) ≡ guest_words_with deed words
@@ -110,6 +115,28 @@ as_many_locks taken = length-map taken page_lock_of
 -- one more of them
 pub locks_push : (taken : List TakenLock) (lock : TakenLock) → map page_lock_of (taken ++ lock ∷ []) ≡ map page_lock_of taken ++ page_lock_of lock ∷ []
 locks_push taken lock = map-append page_lock_of taken (lock ∷ [])
+
+-- what it has made stands at the place for it
+pub made_some : (has_made : Bool) (page : MadePage) → is_some (made_in has_made page) ≡ has_made
+made_some true page = refl
+made_some false page = refl
+
+pub made_there : (has_made : Bool) (page : MadePage) → IsSome (made_in has_made page) → made_in has_made page ≡ Some (computed_of page)
+made_there true page some = refl
+made_there false page some = cc
+
+-- a page that was made changes no lock
+pub made_locks : (page : MadePage) (lock : Option Taken) (standing : Standing) → (with_made page lock standing).locks ≡ (with_taken lock standing).locks
+made_locks page None standing = refl
+made_locks page (Some (OfPage taken)) standing = refl
+made_locks page (Some (OfContext guest)) standing = refl
+made_locks page (Some Made) standing = refl
+
+pub made_context : (page : MadePage) (lock : Option Taken) (standing : Standing) → (with_made page lock standing).context_lock ≡ (with_taken lock standing).context_lock
+made_context page None standing = refl
+made_context page (Some (OfPage taken)) standing = refl
+made_context page (Some (OfContext guest)) standing = refl
+made_context page (Some Made) standing = refl
 
 -- an outcome but that of a skip passes over no item
 pub passes_none : (outcome : Outcome) → ((count : ℕ) → outcome ≡ outcomes.Skipped count → ⊥) → passed_over outcome ≡ 0

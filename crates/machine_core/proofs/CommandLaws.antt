@@ -1,54 +1,51 @@
--- What a command that neither seals nor opens a page asks for, and the numbers of its guest.
-use Rattle.std.proofs.Common.{◌≡◌, ℕ, ◌<◌, Option, Some, None, refl, sym, ◌∙◌, arith}
+-- What a command of the firmware needs once its pages are locked, and its numbers: of its guest, and of the entry that it names.
+use Rattle.std.proofs.Common.{◌≡◌, ℕ, ◌<◌, true, false, is_some, Option, None, Some, refl, ap, arith}
 use Rattle.snp_model.specs.declared.command.Command.{Command}
 use Rattle.snp_model.specs.declared.command.Command.TheVariants as commands
 use Rattle.snp_model.specs.Bounds.{IsFirmwareCommand}
-use Rattle.snp_model.specs.Firmware.{CommandPage, guest_of}
-use Rattle.snp_model.specs.FirmwareStep.{Committing, pages_phase}
-use Rattle.snp_model.specs.Sealing.{sealing_of}
+use Rattle.snp_model.specs.Firmware.{entry_of, guest_of}
+use Rattle.snp_model.specs.FirmwareStep.{Computing, Committing, pages_phase}
+use Rattle.snp_model.specs.Sealing.{Sealing}
 use Rattle.snp_model.specs.State.{Computed}
+use Rattle.machine_core.specs.Commits.{IsBoundedCommand}
 
--- it seals and opens nothing
-pub no_sealing : (command : Command) → IsFirmwareCommand command → sealing_of command ≡ None
-unfolding sealing_of
-no_sealing (commands.GctxCreate guest frame) is = refl
-no_sealing (commands.Activate guest asid) is = refl
-no_sealing (commands.LaunchStart guest) is = refl
-no_sealing (commands.LaunchUpdate guest frame page_type imi perms) is = refl
-no_sealing (commands.LaunchFinish guest) is = refl
-no_sealing (commands.MdInit frame) is = refl
-no_sealing (commands.PageMove guest source target) is = refl
-no_sealing (commands.SwapOut guest source target metadata entry) is = absurd is
-no_sealing (commands.SwapIn guest source target metadata entry) is = absurd is
-no_sealing (commands.Reclaim frame) is = refl
-no_sealing (commands.MdOut guest source target metadata entry) is = absurd is
-no_sealing (commands.MdIn guest source target metadata entry) is = absurd is
-no_sealing (commands.MdRootOut guest source target) is = absurd is
-no_sealing (commands.MdRootIn guest source target) is = absurd is
-
-committing : (computed : Option Computed) → pages_phase None None computed ≡ Committing
+-- a command that seals and opens nothing commits at once
+pub sealing_none : (found : Option Sealing) (computed : Option Computed) → found ≡ None → Committing ≡ pages_phase None found computed
 unfolding pages_phase
-committing None = refl
-committing (Some made) = refl
+sealing_none None None is = refl
+sealing_none None (Some made) is = refl
+sealing_none (Some sealing) computed is = absurd cc
 
--- so it commits once its pages are locked
-pub commits : (command : Command) (page : Option CommandPage) (computed : Option Computed) → IsFirmwareCommand command → page ≡ None → Committing ≡ pages_phase page (sealing_of command) computed
-commits command page computed is none = sym ((λ i. pages_phase (none i) (no_sealing command is i) computed) ∙ committing computed)
+-- and one that seals or opens a page once it has made it
+pub computing : (sealing : Sealing) (found : Option Sealing) (computed : Option Computed) → found ≡ Some sealing → is_some computed ≡ false → Computing sealing ≡ pages_phase None found computed
+unfolding pages_phase
+computing sealing None computed is none = absurd cc
+computing sealing (Some own) None is none = ap Computing (let same : sealing ≡ own = cc in same)
+computing sealing (Some own) (Some made) is none = absurd cc
 
--- its guest has a number from 1 on
-pub guest_number : (command : Command) (guest : ℕ) → IsFirmwareCommand command → guest_of command ≡ Some guest → 0 < guest
-unfolding guest_of
-guest_number (commands.GctxCreate g frame) guest is named = let same : g ≡ guest = cc in let some = is.0 in omega arith
-guest_number (commands.Activate g asid) guest is named = let same : g ≡ guest = cc in let some = is.0.0 in omega arith
-guest_number (commands.LaunchStart g) guest is named = let same : g ≡ guest = cc in let some = is.0 in omega arith
-guest_number (commands.LaunchUpdate g frame page_type imi perms) guest is named = let same : g ≡ guest = cc in let some = is.0.0 in omega arith
-guest_number (commands.LaunchFinish g) guest is named = let same : g ≡ guest = cc in let some = is.0 in omega arith
-guest_number (commands.MdInit frame) guest is named = absurd cc
-guest_number (commands.PageMove g source target) guest is named = let same : g ≡ guest = cc in let some = is.0 in omega arith
-guest_number (commands.SwapOut g source target metadata entry) guest is named = absurd is
-guest_number (commands.SwapIn g source target metadata entry) guest is named = absurd is
-guest_number (commands.Reclaim frame) guest is named = absurd cc
-guest_number (commands.MdOut g source target metadata entry) guest is named = absurd is
-guest_number (commands.MdIn g source target metadata entry) guest is named = absurd is
-guest_number (commands.MdRootOut g source target) guest is named = absurd is
-guest_number (commands.MdRootIn g source target) guest is named = absurd is
+pub committing : (sealing : Sealing) (found : Option Sealing) (computed : Option Computed) → found ≡ Some sealing → is_some computed ≡ true → Committing ≡ pages_phase None found computed
+unfolding pages_phase
+committing sealing None computed is some = absurd cc
+committing sealing (Some own) None is some = absurd cc
+committing sealing (Some own) (Some made) is some = refl
+
+-- the numbers of a command of a scenario
+some_guest : (own guest : ℕ) → 0 < own → Some own ≡ Some guest → 0 < guest
+some_guest own guest some is = let same : own ≡ guest = cc in omega arith
+
+pub bounded : (command : Command) → IsFirmwareCommand command → IsBoundedCommand command
+unfolding guest_of entry_of
+bounded (commands.GctxCreate g frame) is = record { guest = λ guest named. some_guest g guest is.0 named; entry = tt }
+bounded (commands.Activate g asid) is = record { guest = λ guest named. some_guest g guest is.0.0 named; entry = tt }
+bounded (commands.LaunchStart g) is = record { guest = λ guest named. some_guest g guest is.0 named; entry = tt }
+bounded (commands.LaunchUpdate g frame page_type imi perms) is = record { guest = λ guest named. some_guest g guest is.0.0 named; entry = tt }
+bounded (commands.LaunchFinish g) is = record { guest = λ guest named. some_guest g guest is.0 named; entry = tt }
+bounded (commands.MdInit frame) is = record { guest = λ guest named. absurd cc; entry = tt }
+bounded (commands.PageMove g source target) is = record { guest = λ guest named. some_guest g guest is.0 named; entry = tt }
+bounded (commands.SwapOut g source target metadata entry) is = absurd is
+bounded (commands.SwapIn g source target metadata entry) is = absurd is
+bounded (commands.Reclaim frame) is = record { guest = λ guest named. absurd cc; entry = tt }
+bounded (commands.MdOut g source target metadata entry) is = absurd is
+bounded (commands.MdIn g source target metadata entry) is = absurd is
+bounded (commands.MdRootOut g source target) is = absurd is
+bounded (commands.MdRootIn g source target) is = absurd is

@@ -8,19 +8,22 @@ use Rattle.snp_model.specs.declared.event.Outcome.TheVariants.{Firmware}
 use Rattle.snp_model.specs.declared.firmware.Part.TheVariants.{Source, Target}
 use Rattle.snp_model.specs.declared.scenario.GuestSpec.{GuestSpec}
 use Rattle.snp_model.specs.Firmware.{guest_of, pages_of as command_pages, success}
-use Rattle.snp_model.specs.FirmwareStep.{small_shown}
-use Rattle.snp_model.specs.KeptLocks.{OwnsContext, is_locked, recontexted, relocked}
+use Rattle.snp_model.specs.FirmwareStep.{Computing, Committing, phase_of, small_shown}
+use Rattle.snp_model.specs.HeldLocks.{AreCommandLocks}
+use Rattle.snp_model.specs.KeptLocks.{OwnsContext, OwnsLocks, is_locked, recontexted, relocked}
 use Rattle.snp_model.specs.Locks.{locks_frame}
+use Rattle.snp_model.specs.Sealing.{Sealing}
 use Rattle.snp_model.specs.State.{ActorPart, PageLock, Standing}
+use Rattle.snp_model.specs.Touches.{firmware_touches}
 use Rattle.snp_model.proofs.CommandTests.{IsReady}
 use Rattle.machine_core.specs.declared.shown.Shown.{Shown}
-use Rattle.machine_core.specs.Bays.{Bays, GuestContexts, HasFrame, Stock, contents_of, context_holders_of, holders_of, pages_of}
+use Rattle.machine_core.specs.Bays.{Bays, GuestContexts, HasFrame, HasTouched, Stock, contents_of, context_holders_of, holders_of, pages_of}
 use Rattle.machine_core.specs.Commits.{MayCommit}
 use Rattle.machine_core.specs.Commands.{HoldsContext, HoldsNoContext}
 use Rattle.machine_core.specs.Moves.{context_by, context_left, locks_by, locks_left, standing_by}
 use Rattle.machine_core.proofs.ContextsLaws.{context_unlocked}
 use Rattle.machine_core.proofs.GuestCommitLaws.{holds_context}
-use Rattle.machine_core.proofs.PhaseLaws.{frame_has}
+use Rattle.machine_core.proofs.PhaseLaws.{commit_has, commits, compute_has, computes, frame_has, holds_guest}
 use Rattle.machine_core.proofs.RangeLaws.{relocked_none}
 use Rattle.machine_core.proofs.ReadyLaws.{few_locks}
 
@@ -30,6 +33,35 @@ ready frames guests actor command part stock may = record { tested = may.tested;
 
 pub of_kind : (frames : ℕ) (guests : List GuestSpec) (actor : ℕ) (command other : Command) (part : ActorPart) (stock : Stock) → command ≡ other → MayCommit frames guests actor command part stock → MayCommit frames guests actor other part stock
 of_kind frames guests actor command other part stock is may = subst (λ (c : Command). MayCommit frames guests actor c part stock) is may
+
+-- and an attempt that needs its compute or its commit may make it
+pub may_compute : (frames : ℕ) (guests : List GuestSpec) (actor : ℕ) (command : Command) (sealing : Sealing) (part : ActorPart) (stock : Stock) → Computing sealing ≡ phase_of command part.standing
+    → AreCommandLocks frames guests (contents_of stock guests) command part.standing → HasTouched (firmware_touches frames guests part.standing command) stock → OwnsLocks actor part (holders_of stock.bays)
+    → OwnsContext actor part (context_holders_of stock.contexts) → MayCommit frames guests actor command part stock
+may_compute frames guests actor command sealing part stock phase tested has owns owns_context =
+    let done = computes command part.standing sealing phase in
+    record {
+      all = done.all;
+      held = holds_guest frames guests (contents_of stock guests) command part.standing tested done.past;
+      tested = tested;
+      has = compute_has frames guests part.standing command sealing stock phase has;
+      owns = owns;
+      owns_context = owns_context;
+    }
+
+pub may_commit : (frames : ℕ) (guests : List GuestSpec) (actor : ℕ) (command : Command) (part : ActorPart) (stock : Stock) → Committing ≡ phase_of command part.standing
+    → AreCommandLocks frames guests (contents_of stock guests) command part.standing → HasTouched (firmware_touches frames guests part.standing command) stock → OwnsLocks actor part (holders_of stock.bays)
+    → OwnsContext actor part (context_holders_of stock.contexts) → MayCommit frames guests actor command part stock
+may_commit frames guests actor command part stock phase tested has owns owns_context =
+    let done = commits command part.standing phase in
+    record {
+      all = done.all;
+      held = holds_guest frames guests (contents_of stock guests) command part.standing tested done.past;
+      tested = tested;
+      has = commit_has frames guests part.standing command stock phase has;
+      owns = owns;
+      owns_context = owns_context;
+    }
 
 -- The frames of its pages
 

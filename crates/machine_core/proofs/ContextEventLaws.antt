@@ -1,5 +1,5 @@
 -- What the event that locks the context of a command's guest shows and leaves.
-use Rattle.std.proofs.Common.{◌≡◌, ℕ, ◌<◌, List, [], length, Option, Some, None, refl, sym, ap, ◌∙◌, arith}
+use Rattle.std.proofs.Common.{◌≡◌, ℕ, ◌<◌, List, [], length, Option, Some, None, refl, sym, ap, ◌∙◌, subst, arith}
 use Rattle.snp_model.specs.declared.command.Command.{Command}
 use Rattle.snp_model.specs.declared.event.FwRefusal.{FwRefusal}
 use Rattle.snp_model.specs.declared.scenario.GuestSpec.{GuestSpec}
@@ -9,7 +9,7 @@ use Rattle.snp_model.specs.State.{ActorPart, PageLock, Standing, nothing_taken}
 use Rattle.machine_core.specs.declared.shown.Shown.{Shown}
 use Rattle.machine_core.specs.Bays.{Stock, contents_of, context_holders_of, contexts_of, holders_of, pages_of, view_on}
 use Rattle.machine_core.specs.Commands.{context_refused, context_shown}
-use Rattle.machine_core.specs.Moves.{context_by, locks_by, move_by, standing_by}
+use Rattle.machine_core.specs.Moves.{MakesNoPage, context_by, locks_by, move_by, standing_by}
 use Rattle.machine_core.proofs.HeldLaws.{holds_none}
 use Rattle.machine_core.proofs.NamedLockLaws.{quiet_contents}
 use Rattle.machine_core.proofs.RangeLaws.{relocked_none}
@@ -26,6 +26,11 @@ unfolding take_context
 context_shows guests part command guest old new shown is bays contexts =
     let refusal = context_refused guests command guest old in
     shown_by guests part guest old refusal ∙ quiet_contents guests part old new (context_shown guest refusal) shown is (ap pages_of bays) contexts
+
+-- it makes no page
+pub context_made : (guest : ℕ) (refusal : Option FwRefusal) (shown : Shown) → shown ≡ context_shown guest refusal → MakesNoPage shown.lock
+context_made guest None shown is = subst MakesNoPage (sym (ap (λ (s : Shown). s.lock) is)) tt
+context_made guest (Some refusal) shown is = subst MakesNoPage (sym (ap (λ (s : Shown). s.lock) is)) tt
 
 none_left : (guest : ℕ) (standing : Standing) (refusal : Option FwRefusal) → standing ≡ nothing_taken → locks_by (context_shown guest refusal) standing ≡ []
 none_left guest standing None none = ap (λ (s : Standing). s.locks) none

@@ -1,5 +1,5 @@
 -- What an open attempt has locked, by the item of its actor, and what an event that takes no lock leaves of the locks.
-use Rattle.std.proofs.Common.{◌≡◌, ◌≢◌, ℕ, suc, ◌/◌, nat_lt, Bool, true, false, ◌||◌, List, [], ◌∷◌, length, Option, None, Some, Result, Ok, Err, refl, sym, ap, ◌∙◌, arith}
+use Rattle.std.proofs.Common.{◌≡◌, ◌≢◌, ℕ, suc, ◌/◌, nat_lt, Bool, true, false, ◌||◌, List, [], ◌∷◌, length, Option, None, Some, IsSome, Result, Ok, Err, refl, sym, ap, ◌∙◌, arith}
 use Rattle.std.proofs.lemmas.Bool.{true≢false}
 use Rattle.std.proofs.lemmas.Bool.Decides.{nat_tests}
 use Rattle.std.specs.List.{list_any}
@@ -18,12 +18,13 @@ use Rattle.snp_model.specs.State.{ActorPart, PageLock, Pages, Standing, View, no
 use Rattle.snp_model.specs.Touches.{frame_touched, instruction_touches}
 use Rattle.snp_model.proofs.RangeLaws.{also_touched}
 use Rattle.rmp_update.specs.Regions.{region_answer}
+use Rattle.machine_core.specs.declared.made_page.MadePage.{MadePage}
 use Rattle.machine_core.specs.declared.shown.Shown.{Shown}
 use Rattle.machine_core.specs.declared.taken_lock.Taken.{Taken}
-use Rattle.machine_core.specs.declared.taken_lock.Taken.TheVariants.{OfContext, OfPage}
+use Rattle.machine_core.specs.declared.taken_lock.Taken.TheVariants.{Made, OfContext, OfPage}
 use Rattle.machine_core.specs.declared.taken_lock.TakenLock.{TakenLock}
 use Rattle.machine_core.specs.Bays.{HasFrame, HasTouched, Stock, contents_of, context_holders_of, contexts_of, holders_of, locks_of, pages_of, view_on}
-use Rattle.machine_core.specs.Moves.{TakesNoContext, context_by, context_left, lock_shown, locks_by, locks_left, move_by, standing_by, with_taken}
+use Rattle.machine_core.specs.Moves.{MakesNoPage, TakesPageAlone, context_by, context_left, lock_shown, locks_by, locks_left, move_by, standing_by, standing_with, takes_page, with_made, with_taken}
 use Rattle.machine_core.specs.Ranges.{HoldsLock, HoldsNone}
 use Rattle.machine_core.proofs.RangeLaws.{relocked_none}
 
@@ -43,10 +44,11 @@ none_relocked actor part shown old new owns none no_lock same =
     ∙ sym (relocked_none actor (holders_of old.bays) (holds_none actor part old owns none))
     ∙ ap (λ (locks : List PageLock). relocked actor locks (holders_of old.bays)) (sym (none_left shown.outcome shown.lock part.standing no_lock none))
 
-no_context_left : (outcome : Option Outcome) (lock : Option Taken) (standing : Standing) → TakesNoContext lock → standing.context_lock ≡ None → context_left outcome (with_taken lock standing).context_lock ≡ None
+no_context_left : (outcome : Option Outcome) (lock : Option Taken) (standing : Standing) → TakesPageAlone lock → standing.context_lock ≡ None → context_left outcome (with_taken lock standing).context_lock ≡ None
 no_context_left None None standing takes none = none
 no_context_left None (Some (OfPage taken)) standing takes none = none
 no_context_left None (Some (OfContext guest)) standing takes none = absurd takes
+no_context_left None (Some Made) standing takes none = absurd takes
 no_context_left (Some outcome) lock standing takes none = refl
 
 let_go_none : (actor guest : ℕ) (held : Option ℕ) → held ≢ Some actor → released actor held ≡ held
@@ -54,7 +56,7 @@ let_go_none actor guest None other = refl
 let_go_none actor guest (Some holder) other = let apart : holder ≢ actor = λ same. other (ap (λ (n : ℕ). Some n) same) in grind (arith, nat_tests)
 
 -- an actor that has locked no context, by an event that locks none
-unlocked_recontexted : (actor : ℕ) (part : ActorPart) (shown : Shown) (old new : Stock) → OwnsContext actor part (context_holders_of old.contexts) → part.standing.context_lock ≡ None → TakesNoContext shown.lock → new.contexts ≡ old.contexts
+unlocked_recontexted : (actor : ℕ) (part : ActorPart) (shown : Shown) (old new : Stock) → OwnsContext actor part (context_holders_of old.contexts) → part.standing.context_lock ≡ None → TakesPageAlone shown.lock → new.contexts ≡ old.contexts
     → context_holders_of new.contexts ≡ recontexted actor (context_by shown part.standing) (context_holders_of old.contexts)
 unlocked_recontexted actor part shown old new owns none takes same =
     let holds_none = λ (guest : ℕ). λ (held : context_holders_of old.contexts guest ≡ Some actor). true≢false (sym (owns.only guest held) ∙ ap (is_locked guest) none) in
@@ -62,9 +64,34 @@ unlocked_recontexted actor part shown old new owns none takes same =
     ∙ (λ i guest. sym (let_go_none actor guest (context_holders_of old.contexts guest) (holds_none guest)) i)
     ∙ ap (λ (lock : Option ℕ). recontexted actor lock (context_holders_of old.contexts)) (sym (no_context_left shown.outcome shown.lock part.standing takes none))
 
-takes_none : (lock : Option Taken) → lock ≡ None → TakesNoContext lock
+pub takes_none : (lock : Option Taken) → lock ≡ None → TakesPageAlone lock
 takes_none None none = tt
 takes_none (Some taken) none = absurd cc
+
+-- an event that takes the lock of a page, or nothing, makes no page
+pub page_alone_made : (lock : Option Taken) → TakesPageAlone lock → MakesNoPage lock
+page_alone_made None takes = tt
+page_alone_made (Some (OfPage taken)) takes = tt
+page_alone_made (Some (OfContext guest)) takes = absurd takes
+page_alone_made (Some Made) takes = absurd takes
+
+pub none_made : (lock : Option Taken) → lock ≡ None → MakesNoPage lock
+none_made lock none = page_alone_made lock (takes_none lock none)
+
+taken_alike : (page : MadePage) (lock : Option Taken) (standing : Standing) → MakesNoPage lock → with_taken lock standing ≡ with_made page lock standing
+taken_alike page None standing makes = refl
+taken_alike page (Some (OfPage taken)) standing makes = refl
+taken_alike page (Some (OfContext guest)) standing makes = refl
+taken_alike page (Some Made) standing makes = absurd makes
+
+-- so what stands at the place for one doesn't matter
+pub moves_alike : (page : MadePage) (shown : Shown) (after : View) (standing : Standing) → MakesNoPage shown.lock → move_by shown after (standing_by shown standing) ≡ move_by shown after (standing_with page shown standing)
+moves_alike page shown after standing makes = ap (move_by shown after) (taken_alike page shown.lock standing makes)
+
+-- and its lock, if it takes one, is that of a page
+pub page_taken_some : (lock : Option Taken) → takes_page lock ≡ true → IsSome lock
+page_taken_some None takes = absurd (true≢false (sym takes))
+page_taken_some (Some taken) takes = refl
 
 -- so of an attempt that has taken nothing, by an event that takes nothing
 pub none_recontexted : (actor : ℕ) (part : ActorPart) (shown : Shown) (old new : Stock) → OwnsContext actor part (context_holders_of old.contexts) → part.standing ≡ nothing_taken → shown.lock ≡ None → new.contexts ≡ old.contexts
@@ -73,7 +100,7 @@ none_recontexted actor part shown old new owns none no_lock same =
     unlocked_recontexted actor part shown old new owns (ap (λ (s : Standing). s.context_lock) none) (takes_none shown.lock no_lock) same
 
 -- and of an instruction
-pub instruction_recontexted : (actor : ℕ) (part : ActorPart) (shown : Shown) (old new : Stock) (Holds : PageLock → Type 0) → OwnsContext actor part (context_holders_of old.contexts) → AreInstructionLocks Holds part.standing → TakesNoContext shown.lock
+pub instruction_recontexted : (actor : ℕ) (part : ActorPart) (shown : Shown) (old new : Stock) (Holds : PageLock → Type 0) → OwnsContext actor part (context_holders_of old.contexts) → AreInstructionLocks Holds part.standing → TakesPageAlone shown.lock
     → new.contexts ≡ old.contexts → context_holders_of new.contexts ≡ recontexted actor (context_by shown part.standing) (context_holders_of old.contexts)
 instruction_recontexted actor part shown old new Holds owns locks takes same = unlocked_recontexted actor part shown old new owns locks.context takes same
 

@@ -5,6 +5,7 @@ pub mod BuildingLaws
 pub mod CommandLaws
 pub mod CommitLaws
 pub mod CommittedLaws
+pub mod ComputeEventLaws
 pub mod ComputeLaws
 pub mod ContextEventLaws
 pub mod ContextsLaws
@@ -30,8 +31,10 @@ pub mod SealsLaws
 pub mod SeeingLaws
 pub mod SkipLaws
 pub mod SmashLaws
+pub mod SwapCommitLaws
 pub mod SwapContextLaws
 pub mod SwapLaws
+pub mod SwapReadyLaws
 pub mod TouchLaws
 pub mod UpdateLaws
 pub mod WalkingLaws

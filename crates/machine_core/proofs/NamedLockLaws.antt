@@ -1,7 +1,7 @@
 -- The event that locks the next page of a command: what the open attempt has locked so far, and what the event shows and leaves.
-use Rattle.std.proofs.Common.{◌≡◌, ◌≢◌, ℕ, suc, ◌/◌, ◌<◌, ◌≤◌, Bool, true, false, ◌||◌, cond, eqb, nat_lt, List, [], ◌∷◌, length, map, Option, Some, None, slice_get, refl, sym, ap, ◌∙◌, subst, arith}
+use Rattle.std.proofs.Common.{◌≡◌, ◌≢◌, ◌⊎◌, inl, inr, ⊎_elim, ℕ, zero, suc, ◌/◌, ◌<◌, ◌≤◌, Bool, true, false, ◌||◌, cond, eqb, nat_lt, List, [], ◌∷◌, length, map, Option, Some, None, slice_get, refl, sym, ap, ◌∙◌, subst, arith}
 use Rattle.std.proofs.Math.Bool.{or-true}
-use Rattle.std.proofs.lemmas.Bool.{true≢false}
+use Rattle.std.proofs.lemmas.Bool.{eq-eqb, true≢false}
 use Rattle.std.proofs.lemmas.Bool.Decides.{nat_tests}
 use Rattle.std.proofs.lemmas.List.Folds.{list_any-append}
 use Rattle.std.proofs.lemmas.Option.{slice_get_within}
@@ -14,20 +14,18 @@ use Rattle.snp_model.specs.declared.entry.PageSize.TheVariants.{Small}
 use Rattle.snp_model.specs.declared.event.Deed.TheVariants as deeds
 use Rattle.snp_model.specs.declared.event.FwRefusal.{FwRefusal}
 use Rattle.snp_model.specs.declared.event.FwRefusal.TheVariants as refusals
-use Rattle.snp_model.specs.declared.firmware.Part.{Part}
-use Rattle.snp_model.specs.declared.firmware.Part.TheVariants.{Source, Target, Metadata}
+use Rattle.snp_model.specs.declared.firmware.Part.TheVariants.{Target, Metadata}
 use Rattle.snp_model.specs.declared.scenario.GuestSpec.{GuestSpec}
-use Rattle.snp_model.specs.Bounds.{IsFirmwareCommand}
 use Rattle.snp_model.specs.Facts.{frames_in, page_base}
-use Rattle.snp_model.specs.Firmware.{CommandPage, guest_of, has_equal_frames, invalid_param, one_page, pages_of as command_pages}
-use Rattle.snp_model.specs.FirmwareLocks.{context_refusal, entry_refusal, guest_refusal, page_extra, source_refusal}
+use Rattle.snp_model.specs.Firmware.{CommandPage, any_equal, guest_of, has_equal_frames, invalid_param, one_page, pages_of as command_pages, three_pages, two_pages}
+use Rattle.snp_model.specs.FirmwareLocks.{context_refusal, guest_refusal, takes_large}
 use Rattle.snp_model.specs.FirmwareStep.{command_asid, refused, take_page}
 use Rattle.snp_model.specs.HeldLocks.{AreCommandLocks}
 use Rattle.snp_model.specs.KeptLocks.{OwnsLocks}
 use Rattle.snp_model.specs.Locks.{covers, page_lock}
 use Rattle.snp_model.specs.Moves.{Move, lock_move}
 use Rattle.snp_model.specs.State.{ActorPart, Contents, PageLock, Standing}
-use Rattle.snp_model.specs.Touches.{lock_regions, locks_regions, page_touches, region_of}
+use Rattle.snp_model.specs.Touches.{command_touches, lock_regions, locks_regions, page_touches, pages_regions, region_of}
 use Rattle.snp_model.proofs.CommandTests.{lock_page, page_tests, same_some}
 use Rattle.snp_model.proofs.LockLaws.{others_none}
 use Rattle.snp_model.proofs.RangeLaws.{also_touched, lock_region}
@@ -38,80 +36,36 @@ use Rattle.machine_core.specs.declared.taken_lock.Taken.TheVariants.{OfPage}
 use Rattle.machine_core.specs.declared.taken_lock.TakenLock.{TakenLock}
 use Rattle.machine_core.specs.Actors.{page_lock_of}
 use Rattle.machine_core.specs.Bays.{HasFrame, HasTouched, Stock, contents_of, contexts_of, holders_of, pages_of, view_on}
+use Rattle.machine_core.specs.Commits.{MayCommit}
 use Rattle.machine_core.specs.Commands.{AreInOneRegion, command_page, frames_touched, named_refused}
 use Rattle.machine_core.specs.Moves.{move_by, standing_by}
 use Rattle.machine_core.proofs.PageLaws.{base_fits, base_region, own_frame}
 use Rattle.machine_core.proofs.RangeLaws.{covered_region}
 
--- What a command that neither seals nor opens a page tests
-
--- not the words of its source
-no_source_refusal : (command : Command) (asid : ℕ) (words : List ℕ) → IsFirmwareCommand command → source_refusal command asid words ≡ None
-unfolding source_refusal
-no_source_refusal (commands.GctxCreate guest frame) asid words is = refl
-no_source_refusal (commands.Activate guest own) asid words is = refl
-no_source_refusal (commands.LaunchStart guest) asid words is = refl
-no_source_refusal (commands.LaunchUpdate guest frame page_type imi perms) asid words is = refl
-no_source_refusal (commands.LaunchFinish guest) asid words is = refl
-no_source_refusal (commands.MdInit frame) asid words is = refl
-no_source_refusal (commands.PageMove guest source target) asid words is = refl
-no_source_refusal (commands.SwapOut guest source target metadata entry) asid words is = absurd is
-no_source_refusal (commands.SwapIn guest source target metadata entry) asid words is = absurd is
-no_source_refusal (commands.Reclaim frame) asid words is = refl
-no_source_refusal (commands.MdOut guest source target metadata entry) asid words is = absurd is
-no_source_refusal (commands.MdIn guest source target metadata entry) asid words is = absurd is
-no_source_refusal (commands.MdRootOut guest source target) asid words is = absurd is
-no_source_refusal (commands.MdRootIn guest source target) asid words is = absurd is
-
--- nor an entry
-no_entry_refusal : (command : Command) (asid : ℕ) (words : List ℕ) → IsFirmwareCommand command → entry_refusal command asid words ≡ None
-unfolding entry_refusal
-no_entry_refusal (commands.GctxCreate guest frame) asid words is = refl
-no_entry_refusal (commands.Activate guest own) asid words is = refl
-no_entry_refusal (commands.LaunchStart guest) asid words is = refl
-no_entry_refusal (commands.LaunchUpdate guest frame page_type imi perms) asid words is = refl
-no_entry_refusal (commands.LaunchFinish guest) asid words is = refl
-no_entry_refusal (commands.MdInit frame) asid words is = refl
-no_entry_refusal (commands.PageMove guest source target) asid words is = refl
-no_entry_refusal (commands.SwapOut guest source target metadata entry) asid words is = absurd is
-no_entry_refusal (commands.SwapIn guest source target metadata entry) asid words is = absurd is
-no_entry_refusal (commands.Reclaim frame) asid words is = refl
-no_entry_refusal (commands.MdOut guest source target metadata entry) asid words is = absurd is
-no_entry_refusal (commands.MdIn guest source target metadata entry) asid words is = absurd is
-no_entry_refusal (commands.MdRootOut guest source target) asid words is = absurd is
-no_entry_refusal (commands.MdRootIn guest source target) asid words is = absurd is
-
--- so no words of a page
-pub no_extra : (command : Command) (part : Part) (asid : ℕ) → IsFirmwareCommand command → (words : List ℕ) → page_extra command part asid words ≡ None
-unfolding page_extra
-no_extra command Source asid is words = no_source_refusal command asid words is
-no_extra command Target asid is words = refl
-no_extra command Metadata asid is words = no_entry_refusal command asid words is
-
 -- What it has locked so far
 
--- it has two pages at most
-few_pages : (command : Command) → IsFirmwareCommand command → length (command_pages command) ≤ 2
+-- a command has three pages at most
+few_pages : (command : Command) → length (command_pages command) ≤ 3
 unfolding command_pages
-few_pages (commands.GctxCreate guest frame) is = omega arith
-few_pages (commands.Activate guest own) is = omega arith
-few_pages (commands.LaunchStart guest) is = omega arith
-few_pages (commands.LaunchUpdate guest frame page_type imi perms) is = omega arith
-few_pages (commands.LaunchFinish guest) is = omega arith
-few_pages (commands.MdInit frame) is = omega arith
-few_pages (commands.PageMove guest source target) is = omega arith
-few_pages (commands.SwapOut guest source target metadata entry) is = absurd is
-few_pages (commands.SwapIn guest source target metadata entry) is = absurd is
-few_pages (commands.Reclaim frame) is = omega arith
-few_pages (commands.MdOut guest source target metadata entry) is = absurd is
-few_pages (commands.MdIn guest source target metadata entry) is = absurd is
-few_pages (commands.MdRootOut guest source target) is = absurd is
-few_pages (commands.MdRootIn guest source target) is = absurd is
+few_pages (commands.GctxCreate guest frame) = omega arith
+few_pages (commands.Activate guest own) = omega arith
+few_pages (commands.LaunchStart guest) = omega arith
+few_pages (commands.LaunchUpdate guest frame page_type imi perms) = omega arith
+few_pages (commands.LaunchFinish guest) = omega arith
+few_pages (commands.MdInit frame) = omega arith
+few_pages (commands.PageMove guest source target) = omega arith
+few_pages (commands.SwapOut guest source target metadata entry) = omega arith
+few_pages (commands.SwapIn guest source target metadata entry) = omega arith
+few_pages (commands.Reclaim frame) = omega arith
+few_pages (commands.MdOut guest source target metadata entry) = omega arith
+few_pages (commands.MdIn guest source target metadata entry) = omega arith
+few_pages (commands.MdRootOut guest source target) = omega arith
+few_pages (commands.MdRootIn guest source target) = omega arith
 
 -- so there is room for one more lock
-pub lock_room : (command : Command) (locks : List PageLock) (page : CommandPage) → IsFirmwareCommand command → slice_get (command_pages command) (length locks) ≡ Some page → length locks < 3
-lock_room command locks page is next =
-    let few = few_pages command is in
+pub lock_room : (command : Command) (locks : List PageLock) (page : CommandPage) → slice_get (command_pages command) (length locks) ≡ Some page → length locks < 3
+lock_room command locks page next =
+    let few = few_pages command in
     let within = slice_get_within (command_pages command) (length locks) page next in
     omega (arith, few, within)
 
@@ -170,6 +124,22 @@ release_has frames guests contents command standing page stock tested has =
       contexts = λ guest is. has.contexts guest is;
     }
 
+-- so is what a refused compute releases
+pub may_release : (frames : ℕ) (guests : List GuestSpec) (actor : ℕ) (command : Command) (part : ActorPart) (stock : Stock) → MayCommit frames guests actor command part stock → HasTouched (frames_touched part.standing) stock
+unfolding command_touches
+may_release frames guests actor command part stock may =
+    let named = pages_regions (command_pages command) in
+    let locks = part.standing.locks in
+    record {
+      bays = λ frame touches. may.has.bays frame (
+          list_any-append (λ region. eqb region (region_of frame)) named (locks_regions locks)
+          ∙ ap (λ (b : Bool). list_any (λ region. eqb region (region_of frame)) named || b)
+          (locks_listed locks frame (λ number lock is. let of = may.tested.pages number lock is in lock_own (pages_of stock.bays of.page.frame).facts.size of.page.frame lock of.covers) touches)
+          ∙ or-true (list_any (λ region. eqb region (region_of frame)) named)
+          );
+      contexts = λ guest is. may.has.contexts guest (may.tested.context guest is).guest_is;
+    }
+
 -- the region of the page is there, where its frame is in memory
 pub named_has : (frames : ℕ) (standing : Standing) (page : CommandPage) (stock : Stock) → HasTouched (page_touches frames standing page) stock → page.frame < frames → HasFrame stock page.frame
 unfolding page_touches
@@ -188,61 +158,121 @@ none_before : (frame : ℕ) (locks : List PageLock) (page : CommandPage) → sli
 none_before frame [] page next = refl
 none_before frame (lock ∷ locks) page next = absurd cc
 
--- the two frames of page_move differ
+-- the frames of one with more differ
 frames_apart : (frames : ℕ) (guests : List GuestSpec) (contents : Contents) (command : Command) (standing : Standing) (guest : ℕ) → AreCommandLocks frames guests contents command standing → standing.context_lock ≡ Some guest → has_equal_frames command ≡ false
 unfolding context_refusal
 frames_apart frames guests contents command standing guest tested held =
     (let_through (has_equal_frames command) (refusals.Status invalid_param) _ (others_none (guest_refusal guests guest) (context_refusal guests command (contents.contexts guest) None) (tested.context guest held).passes)).fails
 
--- and the lock of its source is of that frame alone
-source_locked : (frames : ℕ) (guests : List GuestSpec) (contents : Contents) (guest source target : ℕ) (standing : Standing) (lock : PageLock) → AreCommandLocks frames guests contents (commands.PageMove guest source target) standing
-    → slice_get standing.locks 0 ≡ Some lock → lock ≡ page_lock Small source
-unfolding command_pages
-source_locked frames guests contents guest source target standing lock tested is =
-    let command = commands.PageMove guest source target in
-    let of = tested.pages 0 lock is in
-    let same : of.page ≡ record { part = Source; frame = source } = same_some of.page _ (sym of.page_is) in
-    let small = (page_tests command of.page.part (contents.pages of.page.frame).facts (command_asid guests command) (lock_page frames (command_asid guests command) command of.page contents of.passes)).small refl in
-    of.covers ∙ (λ i. page_lock (small i) of.page.frame) ∙ ap (λ (page : CommandPage). page_lock Small page.frame) same
+abbrev Apart : List CommandPage → Type 0
+Apart [] = Unit {0}
+Apart (page ∷ pages) = ((number : ℕ) (other : CommandPage) → slice_get pages number ≡ Some other → page.frame ≢ other.frame) × Apart pages
 
-target_free : (source target : ℕ) (lock : PageLock) → lock ≡ page_lock Small source → eqb source target ≡ false → list_any (covers target) (lock ∷ []) ≡ false
-target_free source target lock is apart = ap (λ (l : PageLock). list_any (covers target) (l ∷ [])) is ∙ grind (arith, nat_tests)
+alone : (page : CommandPage) (number : ℕ) (other : CommandPage) → slice_get (page ∷ []) number ≡ Some other → page.frame ≡ other.frame
+alone page zero other is = ap (λ (p : CommandPage). p.frame) (same_some page other is)
+alone page (suc number) other is = absurd cc
 
-move_before : (guest source target : ℕ) (locks : List PageLock) (page : CommandPage) → slice_get (command_pages (commands.PageMove guest source target)) (length locks) ≡ Some page
-    → ((lock : PageLock) → slice_get locks 0 ≡ Some lock → lock ≡ page_lock Small source) → has_equal_frames (commands.PageMove guest source target) ≡ false → list_any (covers page.frame) locks ≡ false
-unfolding command_pages has_equal_frames
-move_before guest source target [] page next first apart = refl
-move_before guest source target (lock ∷ []) page next first apart =
-    ap (λ (p : CommandPage). list_any (covers p.frame) (lock ∷ [])) (sym (same_some _ page next)) ∙ target_free source target lock (first lock refl) apart
-move_before guest source target (lock ∷ other ∷ locks) page next first apart = absurd cc
+one_of_two : (first second : CommandPage) (number : ℕ) (other : CommandPage) → slice_get (first ∷ second ∷ []) number ≡ Some other → (first.frame ≡ other.frame) ⊎ (second.frame ≡ other.frame)
+one_of_two first second zero other is = inl (ap (λ (p : CommandPage). p.frame) (same_some first other is))
+one_of_two first second (suc number) other is = inr (alone second number other is)
+
+none_apart : (page : CommandPage) (number : ℕ) (other : CommandPage) → slice_get [] number ≡ Some other → page.frame ≢ other.frame
+none_apart page number other is = absurd cc
+
+two_apart : (source target : ℕ) → eqb source target ≡ false → Apart (two_pages source target)
+two_apart source target off = (first, (none_apart (record { part = Target; frame = target }), tt))
+  where
+    first : (number : ℕ) (other : CommandPage) → slice_get (record { part = Target; frame = target } ∷ []) number ≡ Some other → source ≢ other.frame
+    first number other is same = let e = alone (record { part = Target; frame = target }) number other is in true≢false (sym (eq-eqb source target (same ∙ sym e)) ∙ off)
+
+three_apart : (source target metadata : ℕ) → any_equal source target metadata ≡ false → Apart (three_pages source target metadata)
+three_apart source target metadata off = (first, (second, (none_apart (record { part = Metadata; frame = metadata }), tt)))
+  where
+    source_target : source ≢ target
+    source_target = grind (arith, nat_tests)
+
+    source_metadata : source ≢ metadata
+    source_metadata = grind (arith, nat_tests)
+
+    target_metadata : target ≢ metadata
+    target_metadata = grind (arith, nat_tests)
+
+    first : (number : ℕ) (other : CommandPage) → slice_get (record { part = Target; frame = target } ∷ record { part = Metadata; frame = metadata } ∷ []) number ≡ Some other → source ≢ other.frame
+    first number other is same =
+        ⊎_elim
+        (λ (e : target ≡ other.frame). source_target (same ∙ sym e))
+        (λ (e : metadata ≡ other.frame). source_metadata (same ∙ sym e))
+        (one_of_two (record { part = Target; frame = target }) (record { part = Metadata; frame = metadata }) number other is)
+
+    second : (number : ℕ) (other : CommandPage) → slice_get (record { part = Metadata; frame = metadata } ∷ []) number ≡ Some other → target ≢ other.frame
+    second number other is same = target_metadata (same ∙ sym (alone (record { part = Metadata; frame = metadata }) number other is))
+
+-- and a lock of a command that takes no page of 2 MB is of its frame alone
+record IsSmallLock (pages : List CommandPage) (number : ℕ) (lock : PageLock) : Type 0 where
+  page : CommandPage
+  page_is : slice_get pages number ≡ Some page
+  lock_is : lock ≡ page_lock Small page.frame
+
+locked_small : (frames : ℕ) (guests : List GuestSpec) (contents : Contents) (command : Command) (standing : Standing) → AreCommandLocks frames guests contents command standing → takes_large command ≡ false
+    → (number : ℕ) (lock : PageLock) → slice_get standing.locks number ≡ Some lock → IsSmallLock (command_pages command) number lock
+locked_small frames guests contents command standing tested takes number lock is =
+    let of = tested.pages number lock is in
+    let asid = command_asid guests command in
+    let small = (page_tests command of.page.part (contents.pages of.page.frame).facts asid (lock_page frames asid command of.page contents of.passes)).small takes in
+    record { page = of.page; page_is = of.page_is; lock_is = of.covers ∙ ap (λ (size : PageSize). page_lock size of.page.frame) small }
+
+small_free : (frame other : ℕ) (lock : PageLock) → lock ≡ page_lock Small frame → frame ≢ other → covers other lock ≡ false
+small_free frame other lock is apart = ap (λ (l : PageLock). covers other l) is ∙ grind (arith, nat_tests)
+
+free_before : (pages : List CommandPage) (locks : List PageLock) (page : CommandPage) → Apart pages → ((number : ℕ) (lock : PageLock) → slice_get locks number ≡ Some lock → IsSmallLock pages number lock)
+    → slice_get pages (length locks) ≡ Some page → list_any (covers page.frame) locks ≡ false
+free_before pages [] page apart each next = refl
+free_before [] (lock ∷ locks) page apart each next = absurd cc
+free_before (own ∷ pages) (lock ∷ locks) page apart each next =
+    let first = each 0 lock refl in
+    let same : own ≡ first.page = same_some own first.page first.page_is in
+    let lock_is = first.lock_is ∙ ap (λ (p : CommandPage). page_lock Small p.frame) (sym same) in
+    let rest = free_before pages locks page apart.1 (λ number l at. let later = each (suc number) l at in record { page = later.page; page_is = later.page_is; lock_is = later.lock_is }) next in
+    ap (λ (b : Bool). b || list_any (covers page.frame) locks) (small_free own.frame page.frame lock lock_is (apart.0 (length locks) page next)) ∙ rest
 
 -- so by the command
-next_free : (frames : ℕ) (guests : List GuestSpec) (contents : Contents) (command : Command) (standing : Standing) (page : CommandPage) → IsFirmwareCommand command → slice_get (command_pages command) (length standing.locks) ≡ Some page
+next_free : (frames : ℕ) (guests : List GuestSpec) (contents : Contents) (command : Command) (standing : Standing) (page : CommandPage) → slice_get (command_pages command) (length standing.locks) ≡ Some page
     → ((guest : ℕ) → guest_of command ≡ Some guest → standing.context_lock ≡ Some guest) → AreCommandLocks frames guests contents command standing → list_any (covers page.frame) standing.locks ≡ false
-unfolding command_pages guest_of
-next_free frames guests contents (commands.GctxCreate guest frame) standing page is next held tested = none_before frame standing.locks page next
-next_free frames guests contents (commands.Activate guest own) standing page is next held tested = absurd cc
-next_free frames guests contents (commands.LaunchStart guest) standing page is next held tested = absurd cc
-next_free frames guests contents (commands.LaunchUpdate guest frame page_type imi perms) standing page is next held tested = none_before frame standing.locks page next
-next_free frames guests contents (commands.LaunchFinish guest) standing page is next held tested = absurd cc
-next_free frames guests contents (commands.MdInit frame) standing page is next held tested = none_before frame standing.locks page next
-next_free frames guests contents (commands.PageMove guest source target) standing page is next held tested =
+unfolding command_pages guest_of has_equal_frames
+next_free frames guests contents (commands.GctxCreate guest frame) standing page next held tested = none_before frame standing.locks page next
+next_free frames guests contents (commands.Activate guest own) standing page next held tested = absurd cc
+next_free frames guests contents (commands.LaunchStart guest) standing page next held tested = absurd cc
+next_free frames guests contents (commands.LaunchUpdate guest frame page_type imi perms) standing page next held tested = none_before frame standing.locks page next
+next_free frames guests contents (commands.LaunchFinish guest) standing page next held tested = absurd cc
+next_free frames guests contents (commands.MdInit frame) standing page next held tested = none_before frame standing.locks page next
+next_free frames guests contents (commands.PageMove guest source target) standing page next held tested =
     let command = commands.PageMove guest source target in
-    move_before guest source target standing.locks page next (λ lock at. source_locked frames guests contents guest source target standing lock tested at)
-    (frames_apart frames guests contents command standing guest tested (held guest refl))
-next_free frames guests contents (commands.SwapOut guest source target metadata entry) standing page is next held tested = absurd is
-next_free frames guests contents (commands.SwapIn guest source target metadata entry) standing page is next held tested = absurd is
-next_free frames guests contents (commands.Reclaim frame) standing page is next held tested = none_before frame standing.locks page next
-next_free frames guests contents (commands.MdOut guest source target metadata entry) standing page is next held tested = absurd is
-next_free frames guests contents (commands.MdIn guest source target metadata entry) standing page is next held tested = absurd is
-next_free frames guests contents (commands.MdRootOut guest source target) standing page is next held tested = absurd is
-next_free frames guests contents (commands.MdRootIn guest source target) standing page is next held tested = absurd is
+    free_before (two_pages source target) standing.locks page (two_apart source target (frames_apart frames guests contents command standing guest tested (held guest refl))) (locked_small frames guests contents command standing tested refl) next
+next_free frames guests contents (commands.SwapOut guest source target metadata entry) standing page next held tested =
+    let command = commands.SwapOut guest source target metadata entry in
+    free_before (three_pages source target metadata) standing.locks page (three_apart source target metadata (frames_apart frames guests contents command standing guest tested (held guest refl))) (locked_small frames guests contents command standing tested refl) next
+next_free frames guests contents (commands.SwapIn guest source target metadata entry) standing page next held tested =
+    let command = commands.SwapIn guest source target metadata entry in
+    free_before (three_pages source target metadata) standing.locks page (three_apart source target metadata (frames_apart frames guests contents command standing guest tested (held guest refl))) (locked_small frames guests contents command standing tested refl) next
+next_free frames guests contents (commands.Reclaim frame) standing page next held tested = none_before frame standing.locks page next
+next_free frames guests contents (commands.MdOut guest source target metadata entry) standing page next held tested =
+    let command = commands.MdOut guest source target metadata entry in
+    free_before (three_pages source target metadata) standing.locks page (three_apart source target metadata (frames_apart frames guests contents command standing guest tested (held guest refl))) (locked_small frames guests contents command standing tested refl) next
+next_free frames guests contents (commands.MdIn guest source target metadata entry) standing page next held tested =
+    let command = commands.MdIn guest source target metadata entry in
+    free_before (three_pages source target metadata) standing.locks page (three_apart source target metadata (frames_apart frames guests contents command standing guest tested (held guest refl))) (locked_small frames guests contents command standing tested refl) next
+next_free frames guests contents (commands.MdRootOut guest source target) standing page next held tested =
+    let command = commands.MdRootOut guest source target in
+    free_before (two_pages source target) standing.locks page (two_apart source target (frames_apart frames guests contents command standing guest tested (held guest refl))) (locked_small frames guests contents command standing tested refl) next
+next_free frames guests contents (commands.MdRootIn guest source target) standing page next held tested =
+    let command = commands.MdRootIn guest source target in
+    free_before (two_pages source target) standing.locks page (two_apart source target (frames_apart frames guests contents command standing guest tested (held guest refl))) (locked_small frames guests contents command standing tested refl) next
 
-pub next_unheld : (frames : ℕ) (guests : List GuestSpec) (actor : ℕ) (command : Command) (part : ActorPart) (page : CommandPage) (stock : Stock) → IsFirmwareCommand command
+pub next_unheld : (frames : ℕ) (guests : List GuestSpec) (actor : ℕ) (command : Command) (part : ActorPart) (page : CommandPage) (stock : Stock)
     → slice_get (command_pages command) (length part.standing.locks) ≡ Some page → ((guest : ℕ) → guest_of command ≡ Some guest → part.standing.context_lock ≡ Some guest)
     → AreCommandLocks frames guests (contents_of stock guests) command part.standing → OwnsLocks actor part (holders_of stock.bays) → holders_of stock.bays page.frame ≢ Some actor
-next_unheld frames guests actor command part page stock is next held tested owns own =
-    true≢false (sym (owns.only page.frame own) ∙ next_free frames guests (contents_of stock guests) command part.standing page is next held tested)
+next_unheld frames guests actor command part page stock next held tested owns own =
+    true≢false (sym (owns.only page.frame own) ∙ next_free frames guests (contents_of stock guests) command part.standing page next held tested)
 
 -- What it shows
 

@@ -6,7 +6,7 @@ use Rattle.snp_model.specs.declared.command.Command.{Command}
 use Rattle.snp_model.specs.declared.scenario.GuestSpec.{GuestSpec}
 use Rattle.snp_model.specs.Firmware.{CommandPage, guest_of, pages_of as command_pages}
 use Rattle.snp_model.specs.FirmwareLocks.{guest_refusal}
-use Rattle.snp_model.specs.FirmwareStep.{Phase, TakeContext, TakePage, Committing, context_phase, pages_phase, phase_of}
+use Rattle.snp_model.specs.FirmwareStep.{Phase, TakeContext, TakePage, Computing, Committing, context_phase, pages_phase, phase_of}
 use Rattle.snp_model.specs.HeldLocks.{AreCommandLocks}
 use Rattle.snp_model.specs.OpenAttempts.{IsCommand}
 use Rattle.snp_model.specs.Sealing.{Sealing, sealing_of}
@@ -84,23 +84,46 @@ takes_page command standing page is =
     let both = past_by (guest_of command) standing.context_lock _ (TakePage page) (λ guest e. cc) is in
     record { next = page_by (slice_get (command_pages command) (length standing.locks)) (sealing_of command) standing.computed page both.0; past = both.1 }
 
+-- One that makes a page
+
+pub record Computes (command : Command) (standing : Standing) (sealing : Sealing) : Type 0 where
+  pub all : slice_get (command_pages command) (length standing.locks) ≡ None
+  pub past : IsPastContext command standing
+  pub seals : sealing_of command ≡ Some sealing
+  pub none : standing.computed ≡ None
+
+compute_by : (found : Option CommandPage) (seals : Option Sealing) (computed : Option Computed) (sealing : Sealing) → Computing sealing ≡ pages_phase found seals computed → (found ≡ None) × (seals ≡ Some sealing) × (computed ≡ None)
+unfolding pages_phase
+compute_by (Some own) seals computed sealing is = absurd cc
+compute_by None (Some own) None sealing is = (refl, cc, refl)
+compute_by None (Some own) (Some made) sealing is = absurd cc
+compute_by None None computed sealing is = absurd cc
+
+pub computes : (command : Command) (standing : Standing) (sealing : Sealing) → Computing sealing ≡ phase_of command standing → Computes command standing sealing
+computes command standing sealing is =
+    let both = past_by (guest_of command) standing.context_lock _ (Computing sealing) (λ guest e. cc) is in
+    let found = compute_by (slice_get (command_pages command) (length standing.locks)) (sealing_of command) standing.computed sealing both.0 in
+    record { all = found.0; past = both.1; seals = found.1; none = found.2 }
+
 -- One that commits
 
 pub record Commits (command : Command) (standing : Standing) : Type 0 where
   pub all : slice_get (command_pages command) (length standing.locks) ≡ None
   pub past : IsPastContext command standing
+  pub made : IsSome (sealing_of command) → IsSome standing.computed
 
-all_by : (found : Option CommandPage) (sealing : Option Sealing) (computed : Option Computed) → Committing ≡ pages_phase found sealing computed → found ≡ None
+all_by : (found : Option CommandPage) (sealing : Option Sealing) (computed : Option Computed) → Committing ≡ pages_phase found sealing computed → (found ≡ None) × (IsSome sealing → IsSome computed)
 unfolding pages_phase
 all_by (Some own) sealing computed is = absurd cc
 all_by None (Some sealing) None is = absurd cc
-all_by None (Some sealing) (Some made) is = refl
-all_by None None computed is = refl
+all_by None (Some sealing) (Some made) is = (refl, λ seals. refl)
+all_by None None computed is = (refl, λ seals. absurd cc)
 
 pub commits : (command : Command) (standing : Standing) → Committing ≡ phase_of command standing → Commits command standing
 commits command standing is =
     let both = past_by (guest_of command) standing.context_lock _ Committing (λ guest e. cc) is in
-    record { all = all_by (slice_get (command_pages command) (length standing.locks)) (sealing_of command) standing.computed both.0; past = both.1 }
+    let found = all_by (slice_get (command_pages command) (length standing.locks)) (sealing_of command) standing.computed both.0 in
+    record { all = found.0; past = both.1; made = found.1 }
 
 -- What is touched
 
@@ -124,7 +147,12 @@ pub commit_has : (frames : ℕ) (guests : List GuestSpec) (standing : Standing) 
 unfolding phase_touches
 commit_has frames guests standing command stock is has = subst (HasPhase frames guests standing command stock) (sym is) has
 
--- a commit touches each page of its command
+pub compute_has : (frames : ℕ) (guests : List GuestSpec) (standing : Standing) (command : Command) (sealing : Sealing) (stock : Stock) → Computing sealing ≡ phase_of command standing → HasPhase frames guests standing command stock (phase_of command standing)
+    → HasTouched (command_touches standing command) stock
+unfolding phase_touches
+compute_has frames guests standing command sealing stock is has = subst (HasPhase frames guests standing command stock) (sym is) has
+
+-- a commit touches each page of its command, and so does a compute
 listed : (pages : List CommandPage) (number : ℕ) (page : CommandPage) → slice_get pages number ≡ Some page → list_any (λ region. eqb region (region_of page.frame)) (pages_regions pages) ≡ true
 unfolding pages_regions
 listed [] number page is = absurd cc

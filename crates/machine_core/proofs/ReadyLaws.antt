@@ -48,7 +48,7 @@ one_lock [] lock few first = absurd cc
 one_lock (found ∷ []) lock few first = ap (λ (l : PageLock). l ∷ []) (same_some found lock first)
 one_lock (found ∷ next ∷ others) lock few first = absurd (omega (arith, few))
 
-two_locks : (locks : List PageLock) (one other : PageLock) → length locks ≤ 2 → slice_get locks 0 ≡ Some one → slice_get locks 1 ≡ Some other → locks ≡ one ∷ other ∷ []
+pub two_locks : (locks : List PageLock) (one other : PageLock) → length locks ≤ 2 → slice_get locks 0 ≡ Some one → slice_get locks 1 ≡ Some other → locks ≡ one ∷ other ∷ []
 two_locks [] one other few first second = absurd cc
 two_locks (found ∷ []) one other few first second = absurd cc
 two_locks (found ∷ next ∷ []) one other few first second = λ i. same_some found one first i ∷ same_some next other second i ∷ []
@@ -72,7 +72,7 @@ small_page frames guests contents command standing number page ready is takes =
     }
 
 -- the locks of the actor are those of its attempt
-holds_locks : (actor : ℕ) (part : ActorPart) (stock : Stock) (locks : List PageLock) → OwnsLocks actor part (holders_of stock.bays) → part.standing.locks ≡ locks → HoldsLocks actor locks stock
+pub holds_locks : (actor : ℕ) (part : ActorPart) (stock : Stock) (locks : List PageLock) → OwnsLocks actor part (holders_of stock.bays) → part.standing.locks ≡ locks → HoldsLocks actor locks stock
 holds_locks actor part stock locks owns are = subst (λ (ls : List PageLock). HoldsLocks actor ls stock) are (record { has = owns.has; only = owns.only })
 
 -- what page_move asks

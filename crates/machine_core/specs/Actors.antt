@@ -1,5 +1,5 @@
--- What an actor keeps of its open attempt beside its deeds: the words that its walks have read, where its guest walk stands, and the locks that it has taken.
-use Rattle.std.specs.Prelude.{◌≡◌, ℕ, ◌<◌, ◌≤◌, ◌^◌, Bool, true, false, List, [], ◌∷◌, ◌++◌, length, Some}
+-- What an actor keeps of its open attempt beside its deeds: the words that its walks have read, where its guest walk stands, the locks that it has taken, and the page that its compute has made.
+use Rattle.std.specs.Prelude.{◌≡◌, ℕ, ◌<◌, ◌≤◌, ◌^◌, Bool, true, false, if◌then◌else◌, List, [], ◌∷◌, ◌++◌, length, Option, Some, None}
 use Rattle.snp_model.specs.declared.event.Deed.{Deed}
 use Rattle.snp_model.specs.declared.event.Deed.TheVariants.{Nested, Table}
 use Rattle.snp_model.specs.declared.item.Line.{Line}
@@ -8,13 +8,22 @@ use Rattle.snp_model.specs.declared.walk.GuestEnd.{GuestEnd}
 use Rattle.snp_model.specs.Step.{line_at}
 use Rattle.snp_model.specs.Walking.{guest_words, nested_words}
 use Rattle.snp_model.specs.Bounds.{IsGuestInside}
-use Rattle.snp_model.specs.State.{PageLock}
+use Rattle.snp_model.specs.State.{Computed, PageLock}
+use Rattle.machine_core.specs.declared.made_page.MadePage.{MadePage}
 use Rattle.machine_core.specs.declared.taken_lock.TakenLock.{TakenLock}
 use Rattle.machine_core.specs.Walks.{stands_of}
 
 -- a lock that it has taken, as the model sees it
 abbrev pub page_lock_of : TakenLock → PageLock
 page_lock_of taken = record { frame = taken.frame; base = taken.base; count = taken.count }
+
+-- a page that a compute has made, as the model sees it
+abbrev pub computed_of : MadePage → Computed
+computed_of page = record { words = page.words; entry = Some page.entry }
+
+-- what stands at the place for such a page, if it was made
+abbrev pub made_in : Bool → MadePage → Option Computed
+made_in has_made page = if has_made then Some (computed_of page) else None
 
 -- the words of guest tables after one more deed
 abbrev pub guest_words_with : Deed → List ℕ → List ℕ

@@ -8,8 +8,9 @@ use Rattle.snp_model.specs.declared.event.FwRefusal.{FwRefusal}
 use Rattle.snp_model.specs.declared.scenario.GuestSpec.{GuestSpec}
 use Rattle.snp_model.specs.Firmware.{CommandPage}
 use Rattle.snp_model.specs.FirmwareLocks.{context_refusal, guest_refusal}
-use Rattle.snp_model.specs.FirmwareStep.{Phase, TakeContext, TakePage, Committing, lock_refusal, refused}
+use Rattle.snp_model.specs.FirmwareStep.{Phase, TakeContext, TakePage, Computing, Committing, lock_refusal, refused}
 use Rattle.snp_model.specs.Locks.{covers}
+use Rattle.snp_model.specs.Sealing.{Sealing}
 use Rattle.snp_model.specs.State.{PageLock, Standing}
 use Rattle.snp_model.specs.Touches.{Touched, region_of}
 use Rattle.machine_core.specs.declared.command.NamedPage.{NamedPage}
@@ -19,6 +20,7 @@ use Rattle.machine_core.specs.declared.shown.Shown.{Shown}
 use Rattle.machine_core.specs.declared.taken_lock.Taken.TheVariants.{OfContext}
 use Rattle.machine_core.specs.declared.taken_lock.TakenLock.{TakenLock}
 use Rattle.machine_core.specs.CommandPages.{released_in}
+use Rattle.machine_core.specs.Seals.{sealing_by}
 use Rattle.machine_core.specs.Bays.{Stock, context_holders_of, contexts_of, holders_of, pages_of}
 
 -- a page that a command names, as the model sees it
@@ -29,7 +31,17 @@ command_page page = record { part = page.part; frame = page.frame }
 abbrev pub phase_by : Next → Phase
 phase_by (nexts.TakeContext guest) = TakeContext guest
 phase_by (nexts.TakePage page) = TakePage (command_page page)
+phase_by (nexts.Compute sealing) = Computing (sealing_by sealing)
+phase_by (nexts.CommitSwap sealing) = Committing
 phase_by nexts.Commit = Committing
+
+-- a commit is that of a command which seals or opens this, or nothing
+abbrev pub CommitsAs : Next → Option Sealing → Type 0
+CommitsAs (nexts.TakeContext guest) sealing = Unit {0}
+CommitsAs (nexts.TakePage page) sealing = Unit {0}
+CommitsAs (nexts.Compute own) sealing = Unit {0}
+CommitsAs (nexts.CommitSwap own) sealing = sealing ≡ Some (sealing_by own)
+CommitsAs nexts.Commit sealing = sealing ≡ None
 
 -- what an event shows that asks for the lock of a guest's context
 abbrev pub context_shown : ℕ → Option FwRefusal → Shown

@@ -8,4 +8,5 @@ pub mod Moves
 pub mod OwnLaws
 pub mod Ranges
 pub mod Seals
+pub mod Swaps
 pub mod Walks

@@ -1,5 +1,5 @@
 -- What the machine's functions show of an event, against the moves of the model.
-use Rattle.std.specs.Prelude.{ℕ, List, [], ◌∷◌, ◌++◌, Option, Some, None, Result, Ok, Err}
+use Rattle.std.specs.Prelude.{ℕ, Bool, true, false, List, [], ◌∷◌, ◌++◌, Option, Some, None, Result, Ok, Err}
 use Rattle.snp_model.specs.declared.access.Verdict.{Verdict}
 use Rattle.snp_model.specs.declared.access.Verdict.TheVariants.{Pass, Hidden, Fault}
 use Rattle.snp_model.specs.declared.event.Deed.TheVariants.{Lock, Table}
@@ -14,28 +14,56 @@ use Rattle.machine_core.specs.declared.cpu.Arrived.{Arrived}
 use Rattle.machine_core.specs.declared.cpu.Processor as cpus
 use Rattle.machine_core.specs.declared.shown.Shown.{Shown}
 use Rattle.machine_core.specs.declared.taken_lock.Taken.{Taken}
-use Rattle.machine_core.specs.declared.taken_lock.Taken.TheVariants.{OfContext, OfPage}
-use Rattle.machine_core.specs.Actors.{page_lock_of}
+use Rattle.machine_core.specs.declared.made_page.MadePage.{MadePage}
+use Rattle.machine_core.specs.declared.taken_lock.Taken.TheVariants.{Made, OfContext, OfPage}
+use Rattle.machine_core.specs.Actors.{computed_of, page_lock_of}
 
 -- the move that an event shows, if it leaves this view, and the open attempt with this
 abbrev pub move_by : Shown → View → Standing → Move
 move_by shown after standing = record { deed = shown.deed; outcome = shown.outcome; contents = after.contents; standing = standing }
 
--- what an open attempt has once a lock was taken, if one was
+-- what an open attempt has once a lock was taken, if one was; a page that was made isn't told by this
 abbrev pub with_taken : Option Taken → Standing → Standing
 with_taken None standing = standing
 with_taken (Some (OfPage taken)) standing = record standing { locks = standing.locks ++ page_lock_of taken ∷ [] }
 with_taken (Some (OfContext guest)) standing = record standing { context_lock = Some guest }
+with_taken (Some Made) standing = standing
 
--- an event has locked no context
-abbrev pub TakesNoContext : Option Taken → Type 0
-TakesNoContext None = Unit {0}
-TakesNoContext (Some (OfPage taken)) = Unit {0}
-TakesNoContext (Some (OfContext guest)) = ⊥
+-- an event has taken the lock of a page, or nothing
+abbrev pub TakesPageAlone : Option Taken → Type 0
+TakesPageAlone None = Unit {0}
+TakesPageAlone (Some (OfPage taken)) = Unit {0}
+TakesPageAlone (Some (OfContext guest)) = ⊥
+TakesPageAlone (Some Made) = ⊥
+
+-- whether an event has taken the lock of a page
+abbrev pub takes_page : Option Taken → Bool
+takes_page None = false
+takes_page (Some (OfPage taken)) = true
+takes_page (Some (OfContext guest)) = false
+takes_page (Some Made) = false
+
+-- an event has made no page
+abbrev pub MakesNoPage : Option Taken → Type 0
+MakesNoPage None = Unit {0}
+MakesNoPage (Some (OfPage taken)) = Unit {0}
+MakesNoPage (Some (OfContext guest)) = Unit {0}
+MakesNoPage (Some Made) = ⊥
 
 -- what an open attempt has after what an event shows, where it stays open
 abbrev pub standing_by : Shown → Standing → Standing
 standing_by shown standing = with_taken shown.lock standing
+
+-- what an open attempt has once a lock was taken, or this page was made
+abbrev pub with_made : MadePage → Option Taken → Standing → Standing
+with_made page None standing = standing
+with_made page (Some (OfPage taken)) standing = record standing { locks = standing.locks ++ page_lock_of taken ∷ [] }
+with_made page (Some (OfContext guest)) standing = record standing { context_lock = Some guest }
+with_made page (Some Made) standing = record standing { computed = Some (computed_of page) }
+
+-- what it has after what an event shows, where it stays open, with this page at the place for a page that is made
+abbrev pub standing_with : MadePage → Shown → Standing → Standing
+standing_with page shown standing = with_made page shown.lock standing
 
 -- the locks that are left once an attempt has ended so, or not: its end releases them
 abbrev pub locks_left : Option Outcome → List PageLock → List PageLock

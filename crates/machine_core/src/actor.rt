@@ -1,4 +1,4 @@
-ghost use Rattle.std.specs.Prelude.{◌≡◌, ◌++◌, ◌∷◌, [], ◌+◌, ◌<◌, ◌≤◌, ◌^◌, ◌==◌, nat_le, nat_lt, length, map, None, Some, IfOk, IsNone, IsSome};
+ghost use Rattle.std.specs.Prelude.{◌≡◌, ◌++◌, ◌∷◌, [], ◌+◌, ◌<◌, ◌≤◌, ◌^◌, ◌==◌, nat_le, nat_lt, length, map, None, Some, true, IfOk, IsNone, IsSome, is_some};
 ghost use Rattle.snp_model.specs.Opening.{opening_part};
 ghost use Rattle.snp_model.specs.Step.{line_at, passed_over, tries_again, last_after, part_after};
 ghost use Rattle.snp_model.specs.declared.event.Event.{Event};
@@ -6,10 +6,11 @@ ghost use Rattle.snp_model.specs.Moves.{Move};
 ghost use Rattle.snp_model.specs.State.{View};
 ghost use Rattle.snp_model.specs.Walking.{guest_words, nested_words};
 ghost use Rattle.snp_model.specs.Bounds.{IsGuestInside};
-ghost use Rattle.machine_core.specs.Actors.{IsBegun, is_nested_read, page_lock_of};
-ghost use Rattle.machine_core.specs.Moves.{context_by, locks_by, move_by, standing_by, with_taken};
+ghost use Rattle.machine_core.specs.Actors.{IsBegun, computed_of, is_nested_read, page_lock_of};
+ghost use Rattle.machine_core.specs.Moves.{context_by, locks_by, move_by, standing_with, takes_page, with_made};
 ghost use Rattle.machine_core.specs.Walks.{IsPagingRole, stands_of};
 
+use crate::made_page::MadePage;
 use crate::shown::Shown;
 use crate::taken_lock::{Taken, TakenLock};
 use crate::walk_words::WalkWords;
@@ -34,17 +35,20 @@ pub struct ActorState {
     locks: ArrayVec<TakenLock, 3>,
     // The guest whose context it has locked.
     context_lock: Option<u8>,
+    // Whether its compute has made a page, which then stands here.
+    has_made: bool,
+    page: MadePage,
     last: Option<Outcome>,
 }
 
 impl Model for ActorState {
     ghost use Rattle.std.specs.Prelude.{map, None};
     ghost use Rattle.snp_model.specs.State.{ActorPart};
-    ghost use Rattle.machine_core.specs.Actors.{IsActorState, page_lock_of};
+    ghost use Rattle.machine_core.specs.Actors.{IsActorState, made_in, page_lock_of};
 
     ghost Value = { ActorPart };
 
-    ghost view = { λ a. record { role = a.role; script = a.script; item = a.item; attempt = a.attempt; deeds = a.deeds.items; standing = record { locks = map page_lock_of a.locks.items; context_lock = a.context_lock; computed = None }; last = a.last } };
+    ghost view = { λ a. record { role = a.role; script = a.script; item = a.item; attempt = a.attempt; deeds = a.deeds.items; standing = record { locks = map page_lock_of a.locks.items; context_lock = a.context_lock; computed = made_in a.has_made a.page }; last = a.last } };
 
     ghost invariant = { λ a. IsActorState a.role a.script a.item a.deeds.items a.words.guest.items a.words.nested.items a.stands };
 }
@@ -65,6 +69,8 @@ impl ActorState {
             stands: no_walk(),
             locks: ArrayVec::new(),
             context_lock: None,
+            has_made: false,
+            page: MadePage::new(),
             last: None,
         })
     }
@@ -135,6 +141,23 @@ impl ActorState {
         self.context_lock
     }
 
+    /// Whether the compute of the open attempt has made a page.
+    #[tactic(auto, using(crate::proofs::ActorLaws::made_some))]
+    pub fn has_made(&self) -> bool
+        ensures { result ≡ is_some self.now.standing.computed }
+    {
+        self.has_made
+    }
+
+    /// The page that the compute of the open attempt has made.
+    #[tactic(auto, using(crate::proofs::ActorLaws::made_there))]
+    pub fn made(&self) -> &MadePage
+        requires { IsSome self.now.standing.computed }
+        ensures { self.now.standing.computed ≡ Some (computed_of result.now) }
+    {
+        &self.page
+    }
+
     /// The last outcome that isn't of a skip.
     pub fn last(&self) -> Option<Outcome>
         ensures { result ≡ self.now.last }
@@ -181,28 +204,33 @@ impl ActorState {
         }
     }
 
-    // The lock of the open attempt that an event has taken, if it has.
+    // The lock that an event of the open attempt has taken, or this page, if it was made.
     #[tactic(auto, using(crate::proofs::ActorLaws::as_many_locks, crate::proofs::ActorLaws::locks_push))]
-    fn take(&mut self, lock: Option<Taken>)
-        requires { IsSome lock → length self.old.standing.locks < 3 }
-        ensures { self.new ≡ record self.old { standing = with_taken lock self.old.standing } }
+    fn take(&mut self, lock: Option<Taken>, page: &MadePage)
+        requires { takes_page lock ≡ true → length self.old.standing.locks < 3 }
+        ensures { self.new ≡ record self.old { standing = with_made page.now lock self.old.standing } }
     {
         match lock {
             None => {}
             Some(Taken::OfPage(lock)) => self.locks.push(lock),
             Some(Taken::OfContext(guest)) => self.context_lock = Some(guest),
+            Some(Taken::Made) => {
+                self.page.put(page);
+                self.has_made = true;
+            }
         }
     }
 
-    /// Takes down what an event shows, and gives the event: a lock that was taken is kept until the attempt ends.
+    /// Takes down what an event shows, and gives the event: a lock that was taken is kept until the attempt ends, and so is
+    /// this page, where it was made.
     #[tactic(auto, unfolding(snp_model::specs::Step::part_after))]
-    pub fn take_down(&mut self, shown: &Shown) -> Event
+    pub fn take_down(&mut self, shown: &Shown, page: &MadePage) -> Event
         requires role { IsPagingRole self.old.role }
         requires unfinished { self.old.item < length self.old.script }
         requires room { IsNone shown.now.outcome → length self.old.deeds < 32 }
-        requires lock_room { IsSome shown.now.lock → length self.old.standing.locks < 3 }
+        requires lock_room { takes_page shown.now.lock ≡ true → length self.old.standing.locks < 3 }
         ensures event { result ≡ record { item = self.old.item; attempt = self.old.attempt; deed = shown.now.deed; outcome = shown.now.outcome } }
-        ensures part { (after : View) → self.new ≡ part_after self.old (move_by shown.now after (standing_by shown.now self.old.standing)) shown.now.outcome }
+        ensures part { (after : View) → self.new ≡ part_after self.old (move_by shown.now after (standing_with page.now shown.now self.old.standing)) shown.now.outcome }
         ensures locks { self.new.standing.locks ≡ locks_by shown.now self.old.standing }
         ensures context { self.new.standing.context_lock ≡ context_by shown.now self.old.standing }
     {
@@ -215,7 +243,7 @@ impl ActorState {
         match &shown.outcome {
             None => {
                 self.keep(shown.deed);
-                self.take(shown.lock);
+                self.take(shown.lock, page);
             }
             Some(outcome) => self.end(outcome),
         }
@@ -241,6 +269,7 @@ impl ActorState {
         self.words.clear();
         self.locks.clear();
         self.context_lock = None;
+        self.has_made = false;
         self.last = last_after(self.last, *outcome);
     }
 }

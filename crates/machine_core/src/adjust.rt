@@ -13,7 +13,7 @@ ghost use Rattle.snp_model.specs.Validation.{adjust_input, adjust_refusal, pages
 ghost use Rattle.snp_model.specs.Walking.{guest_stands, guest_words};
 ghost use Rattle.machine_core.specs.Actors.{IsBegun};
 ghost use Rattle.machine_core.specs.Bays.{HasFrame, HasTouched, contents_of, holders_of, locks_of, pages_of, view_on};
-ghost use Rattle.machine_core.specs.Moves.{TakesNoContext, lock_shown, locks_by, move_by, processor_of, standing_by};
+ghost use Rattle.machine_core.specs.Moves.{TakesPageAlone, lock_shown, locks_by, move_by, processor_of, standing_by};
 ghost use Rattle.machine_core.specs.Ranges.{HoldsLock, HoldsNone, IsLockOfPage, page_refused};
 
 use crate::actor::ActorState;
@@ -59,7 +59,7 @@ pub fn adjust_event<P: Parts>(
     ensures moves { cpu_adjust frames guests.now (view_on (P.stock parts.old) guests.now) actor.now (processor_of cpu) ask.now.address ask.now.size ask.now.target ask.now.mask ask.now.vmsa
         ≡ move_by shown.new (view_on (P.stock parts.new) guests.now) (standing_by shown.new actor.now.standing) }
     ensures contexts { (P.stock parts.new).contexts ≡ (P.stock parts.old).contexts }
-    ensures no_context { TakesNoContext shown.new.lock }
+    ensures page_alone { TakesPageAlone shown.new.lock }
     ensures locks { (locks_of (P.stock parts.new)).holder ≡ relocked number (locks_by shown.new actor.now.standing) (locks_of (P.stock parts.old)).holder }
     ensures room { IsSome shown.new.lock → length actor.now.standing.locks < 3 }
     ensures kept { P.kept parts.old parts.new }
@@ -112,7 +112,7 @@ fn adjust_page<P: Parts>(
     ensures moves { adjust_move guests.now (view_on (P.stock parts.old) guests.now) actor.now (processor_of cpu) ask.now.size ask.now.target ask.now.mask ask.now.vmsa actor.now.standing.locks at.now.gpn at.now.private at.now.frame at.now.size
         ≡ move_by shown.new (view_on (P.stock parts.new) guests.now) (standing_by shown.new actor.now.standing) }
     ensures contexts { (P.stock parts.new).contexts ≡ (P.stock parts.old).contexts }
-    ensures no_context { TakesNoContext shown.new.lock }
+    ensures page_alone { TakesPageAlone shown.new.lock }
     ensures locks { (locks_of (P.stock parts.new)).holder ≡ relocked number (locks_by shown.new actor.now.standing) (locks_of (P.stock parts.old)).holder }
     ensures room { IsSome shown.new.lock → length actor.now.standing.locks < 3 }
     ensures kept { P.kept parts.old parts.new }
@@ -141,7 +141,7 @@ fn lock_page<P: Parts>(
     ensures shown { shown.new ≡ lock_shown (page_lock (pages_of (P.stock parts.old).bays frame).facts.size frame) (page_refused (adjust_refusal place.now ask.now.size ask.now.mask ask.now.vmsa) frame (P.stock parts.old)) }
     ensures pages { pages_of (P.stock parts.new).bays ≡ pages_of (P.stock parts.old).bays }
     ensures contexts { (P.stock parts.new).contexts ≡ (P.stock parts.old).contexts }
-    ensures no_context { TakesNoContext shown.new.lock }
+    ensures page_alone { TakesPageAlone shown.new.lock }
     ensures locks { holders_of (P.stock parts.new).bays ≡ relocked number (locks_by shown.new nothing_taken) (holders_of (P.stock parts.old).bays) }
     ensures kept { P.kept parts.old parts.new }
 {
@@ -169,7 +169,7 @@ fn commit_page<P: Parts>(
     ensures pages { let own = (pages_of (P.stock parts.old).bays at.now.frame).facts in
         pages_of (P.stock parts.new).bays ≡ pages_adjusted vmpl ask.now.target ask.now.mask ask.now.vmsa (page_lock own.size at.now.frame) (pages_of (P.stock parts.old).bays) }
     ensures contexts { (P.stock parts.new).contexts ≡ (P.stock parts.old).contexts }
-    ensures no_context { TakesNoContext shown.new.lock }
+    ensures page_alone { TakesPageAlone shown.new.lock }
     ensures locks { holders_of (P.stock parts.new).bays ≡ relocked number [] (holders_of (P.stock parts.old).bays) }
     ensures kept { P.kept parts.old parts.new }
 {

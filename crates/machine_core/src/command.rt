@@ -1,12 +1,12 @@
-ghost use Rattle.std.specs.Prelude.{◌≡◌, length, slice_get};
+ghost use Rattle.std.specs.Prelude.{◌≡◌, None, length, slice_get};
 ghost use Rattle.std.specs.Option.{option_map};
-ghost use Rattle.snp_model.specs.Bounds.{IsFirmwareCommand};
 ghost use Rattle.snp_model.specs.Firmware.{guest_of, one_page, pages_of, three_pages, two_pages};
 ghost use Rattle.snp_model.specs.FirmwareStep.{pages_phase, phase_of};
 ghost use Rattle.snp_model.specs.Sealing.{sealing_of};
-ghost use Rattle.machine_core.specs.Commands.{command_page, phase_by};
+ghost use Rattle.machine_core.specs.Commands.{CommitsAs, command_page, phase_by};
 
 use crate::actor::ActorState;
+use crate::sealing::{Sealing, sealing_of};
 use snp_model::{Command, Part};
 
 /// A page that a command names: which part of the command, and the frame.
@@ -16,23 +16,27 @@ pub struct NamedPage {
     pub frame: u64,
 }
 
-/// What the open attempt of a command needs next, which seals and opens no page.
+/// What the open attempt of a command needs next.
 #[derive(Clone, Copy)]
 pub enum Next {
     /// The lock of the context of its guest.
     TakeContext(u8),
     /// The lock of a page.
     TakePage(NamedPage),
-    /// Its commit.
+    /// The compute of the page that it seals or opens.
+    Compute(Sealing),
+    /// Its commit, with the page that was made.
+    CommitSwap(Sealing),
+    /// Its commit, where it seals and opens nothing.
     Commit,
 }
 
 /// What the open attempt of a command needs next: first the lock of its guest's context, then those of its pages, in their
-/// order, and then the commit.
-#[tactic(auto, unfolding(snp_model::specs::FirmwareStep::context_phase, snp_model::specs::FirmwareStep::pages_phase))]
+/// order, then the compute, if it seals or opens a page, and then the commit.
+#[tactic(auto, unfolding(snp_model::specs::FirmwareStep::context_phase))]
 pub fn next_of(command: &Command, actor: &ActorState) -> Next
-    requires { IsFirmwareCommand command.now }
-    ensures { phase_by result ≡ phase_of command.now actor.now.standing }
+    ensures phase { phase_by result ≡ phase_of command.now actor.now.standing }
+    ensures commits { CommitsAs result (sealing_of command.now) }
 {
     let pages = next_page(command, actor);
     match guest_of(command) {
@@ -47,12 +51,30 @@ pub fn next_of(command: &Command, actor: &ActorState) -> Next
 // What it needs once the context is locked.
 #[tactic(auto, unfolding(snp_model::specs::FirmwareStep::pages_phase))]
 fn next_page(command: &Command, actor: &ActorState) -> Next
-    requires { IsFirmwareCommand command.now }
-    ensures { phase_by result ≡ pages_phase (slice_get (pages_of command.now) (length actor.now.standing.locks)) (sealing_of command.now) actor.now.standing.computed }
+    ensures phase { phase_by result ≡ pages_phase (slice_get (pages_of command.now) (length actor.now.standing.locks)) (sealing_of command.now) actor.now.standing.computed }
+    ensures commits { CommitsAs result (sealing_of command.now) }
 {
     match page_at(command, actor.locks_taken()) {
         Some(page) => Next::TakePage(page),
+        None => once_locked(command, actor),
+    }
+}
+
+// What it needs once its pages are locked too.
+#[tactic(auto, unfolding(snp_model::specs::FirmwareStep::pages_phase))]
+fn once_locked(command: &Command, actor: &ActorState) -> Next
+    ensures phase { phase_by result ≡ pages_phase None (sealing_of command.now) actor.now.standing.computed }
+    ensures commits { CommitsAs result (sealing_of command.now) }
+{
+    match sealing_of(command) {
         None => Next::Commit,
+        Some(sealing) => {
+            if actor.has_made() {
+                Next::CommitSwap(sealing)
+            } else {
+                Next::Compute(sealing)
+            }
+        }
     }
 }
 

@@ -1,4 +1,4 @@
-ghost use Rattle.std.specs.Prelude.{◌≡◌, ◌<◌, List, length, None, IsSome};
+ghost use Rattle.std.specs.Prelude.{◌≡◌, ◌<◌, true, List, length, None, IsSome};
 ghost use Rattle.snp_model.specs.declared.scenario.GuestSpec.{GuestSpec};
 ghost use Rattle.snp_model.specs.declared.scenario.Role.TheVariants.{Cpu, Host, Firmware};
 ghost use Rattle.snp_model.specs.Bounds.{IsCpu, IsGuestInside, IsItemOf};
@@ -11,7 +11,7 @@ ghost use Rattle.snp_model.specs.Touches.{item_touches};
 ghost use Rattle.snp_model.specs.Walking.{guest_words};
 ghost use Rattle.machine_core.specs.Actors.{IsBegun};
 ghost use Rattle.machine_core.specs.Bays.{HasAll, HasTouched, locks_of, view_on};
-ghost use Rattle.machine_core.specs.Moves.{context_by, locks_by, move_by, standing_by};
+ghost use Rattle.machine_core.specs.Moves.{TakesPageAlone, context_by, locks_by, move_by, standing_by, standing_with, takes_page};
 ghost use Rattle.machine_core.specs.Walks.{stands_of};
 
 use crate::actor::ActorState;
@@ -19,6 +19,7 @@ use crate::adjust::{Adjustment, adjust_event};
 use crate::command_event::command_event;
 use crate::cpu::{Processor, Walker, cpu_access};
 use crate::host::host_access;
+use crate::made_page::MadePage;
 use crate::parts::Parts;
 use crate::shown::Shown;
 use crate::skip::skip;
@@ -30,15 +31,15 @@ use snp_model::{Event, GuestEnd, GuestSpec, Item, Role};
 
 /// Makes the next event of an unfinished actor, with its number from 1, in memory of so many frames: the step of the
 /// tables, over parts that have the regions that it touches. The locks of its number are those that its open attempt has
-/// taken. `words` is a place for the words of one page, whatever it holds, and what it shows is written to a place that is
-/// there. Takes no memory.
+/// taken. `page` is a place for one page, whatever it holds, and what it shows is written to a place that is there. Takes no
+/// memory.
 pub(crate) fn advance<P: Parts>(
     actor: &mut ActorState,
     number: u32,
     frames: u32,
     guests: &[GuestSpec],
     parts: &mut P,
-    words: &mut [u64; 512],
+    page: &mut MadePage,
     shown: &mut Shown,
 ) -> Event
     requires ready { IsReady frames guests.now actor.old }
@@ -56,8 +57,8 @@ pub(crate) fn advance<P: Parts>(
     ensures context_locks { (locks_of (P.stock parts.new)).context_holder ≡ recontexted number actor.new.standing.context_lock (locks_of (P.stock parts.old)).context_holder }
     ensures kept { P.kept parts.old parts.new }
 {
-    next_event(parts, number, frames, guests, actor, words, shown);
-    actor.take_down(shown)
+    next_event(parts, number, frames, guests, actor, page, shown);
+    actor.take_down(shown, page)
 }
 
 // What the next event of an unfinished actor shows; the parts are then as after it.
@@ -68,7 +69,7 @@ fn next_event<P: Parts>(
     frames: u32,
     guests: &[GuestSpec],
     actor: &ActorState,
-    words: &mut [u64; 512],
+    page: &mut MadePage,
     shown: &mut Shown,
 )
     requires ready { IsReady frames guests.now actor.now }
@@ -78,10 +79,10 @@ fn next_event<P: Parts>(
     requires owns_context { OwnsContext number actor.now (locks_of (P.stock parts.old)).context_holder }
     requires tested { IsTestedAt frames guests.now (view_on (P.stock parts.old) guests.now).contents actor.now }
     ensures moves { item_move frames guests.now (view_on (P.stock parts.old) guests.now) actor.now actor.now.role (line_at actor.now.script actor.now.item).item
-        ≡ move_by shown.new (view_on (P.stock parts.new) guests.now) (standing_by shown.new actor.now.standing) }
+        ≡ move_by shown.new (view_on (P.stock parts.new) guests.now) (standing_with page.new shown.new actor.now.standing) }
     ensures locks { (locks_of (P.stock parts.new)).holder ≡ relocked number (locks_by shown.new actor.now.standing) (locks_of (P.stock parts.old)).holder }
     ensures context_locks { (locks_of (P.stock parts.new)).context_holder ≡ recontexted number (context_by shown.new actor.now.standing) (locks_of (P.stock parts.old)).context_holder }
-    ensures room { IsSome shown.new.lock → length actor.now.standing.locks < 3 }
+    ensures room { takes_page shown.new.lock ≡ true → length actor.now.standing.locks < 3 }
     ensures kept { P.kept parts.old parts.new }
 {
     let item = actor.item();
@@ -111,12 +112,12 @@ fn next_event<P: Parts>(
             )
         }
         Role::Host => host_event(parts, number, frames, guests, actor, item, shown),
-        Role::Firmware => firmware_event(parts, number, frames, guests, actor, item, words, shown),
+        Role::Firmware => firmware_event(parts, number, frames, guests, actor, item, page, shown),
     }
 }
 
 // The next event of a guest's processor.
-#[tactic(auto, using(crate::proofs::HeldLaws::none_relocked, crate::proofs::HeldLaws::none_recontexted, crate::proofs::HeldLaws::instruction_recontexted, crate::proofs::ArrivedLaws::attempt_admitted), unfolding(snp_model::specs::Step::item_move, snp_model::specs::Touches::item_touches, snp_model::specs::HeldLocks::AreItemLocks, snp_model::specs::OpenAttempts::IsAttempt))]
+#[tactic(auto, using(crate::proofs::HeldLaws::none_relocked, crate::proofs::HeldLaws::none_recontexted, crate::proofs::HeldLaws::instruction_recontexted, crate::proofs::HeldLaws::takes_none, crate::proofs::ArrivedLaws::attempt_admitted), unfolding(snp_model::specs::Step::item_move, snp_model::specs::Touches::item_touches, snp_model::specs::HeldLocks::AreItemLocks, snp_model::specs::OpenAttempts::IsAttempt))]
 fn cpu_event<P: Parts>(
     parts: &mut P,
     number: u32,
@@ -142,6 +143,7 @@ fn cpu_event<P: Parts>(
     ensures locks { (locks_of (P.stock parts.new)).holder ≡ relocked number (locks_by shown.new actor.now.standing) (locks_of (P.stock parts.old)).holder }
     ensures context_locks { (locks_of (P.stock parts.new)).context_holder ≡ recontexted number (context_by shown.new actor.now.standing) (locks_of (P.stock parts.old)).context_holder }
     ensures room { IsSome shown.new.lock → length actor.now.standing.locks < 3 }
+    ensures page_alone { TakesPageAlone shown.new.lock }
     ensures kept { P.kept parts.old parts.new }
 {
     match item {
@@ -192,7 +194,7 @@ fn cpu_event<P: Parts>(
 }
 
 // The next event of a hypervisor's processor.
-#[tactic(auto, using(crate::proofs::TouchLaws::frame_has, crate::proofs::HeldLaws::none_relocked, crate::proofs::HeldLaws::none_recontexted, crate::proofs::HeldLaws::instruction_recontexted), unfolding(snp_model::specs::Step::item_move, snp_model::specs::Touches::item_touches, snp_model::specs::HeldLocks::AreItemLocks))]
+#[tactic(auto, using(crate::proofs::TouchLaws::frame_has, crate::proofs::HeldLaws::none_relocked, crate::proofs::HeldLaws::none_recontexted, crate::proofs::HeldLaws::instruction_recontexted, crate::proofs::HeldLaws::takes_none), unfolding(snp_model::specs::Step::item_move, snp_model::specs::Touches::item_touches, snp_model::specs::HeldLocks::AreItemLocks))]
 fn host_event<P: Parts>(
     parts: &mut P,
     number: u32,
@@ -212,6 +214,7 @@ fn host_event<P: Parts>(
     ensures locks { (locks_of (P.stock parts.new)).holder ≡ relocked number (locks_by shown.new actor.now.standing) (locks_of (P.stock parts.old)).holder }
     ensures context_locks { (locks_of (P.stock parts.new)).context_holder ≡ recontexted number (context_by shown.new actor.now.standing) (locks_of (P.stock parts.old)).context_holder }
     ensures room { IsSome shown.new.lock → length actor.now.standing.locks < 3 }
+    ensures page_alone { TakesPageAlone shown.new.lock }
     ensures kept { P.kept parts.old parts.new }
 {
     match item {
@@ -235,7 +238,7 @@ fn firmware_event<P: Parts>(
     guests: &[GuestSpec],
     actor: &ActorState,
     item: &Item,
-    words: &mut [u64; 512],
+    page: &mut MadePage,
     shown: &mut Shown,
 )
     requires item { IsItemOf frames Firmware item.now }
@@ -245,10 +248,10 @@ fn firmware_event<P: Parts>(
     requires owns_context { OwnsContext number actor.now (locks_of (P.stock parts.old)).context_holder }
     requires tested { AreItemLocks frames guests.now (view_on (P.stock parts.old) guests.now).contents Firmware item.now actor.now.deeds actor.now.standing }
     ensures moves { item_move frames guests.now (view_on (P.stock parts.old) guests.now) actor.now Firmware item.now
-        ≡ move_by shown.new (view_on (P.stock parts.new) guests.now) (standing_by shown.new actor.now.standing) }
+        ≡ move_by shown.new (view_on (P.stock parts.new) guests.now) (standing_with page.new shown.new actor.now.standing) }
     ensures locks { (locks_of (P.stock parts.new)).holder ≡ relocked number (locks_by shown.new actor.now.standing) (locks_of (P.stock parts.old)).holder }
     ensures context_locks { (locks_of (P.stock parts.new)).context_holder ≡ recontexted number (context_by shown.new actor.now.standing) (locks_of (P.stock parts.old)).context_holder }
-    ensures room { IsSome shown.new.lock → length actor.now.standing.locks < 3 }
+    ensures room { takes_page shown.new.lock ≡ true → length actor.now.standing.locks < 3 }
     ensures kept { P.kept parts.old parts.new }
 {
     match item {
@@ -258,7 +261,7 @@ fn firmware_event<P: Parts>(
         | Item::Rmpupdate(_)
         | Item::Psmash { .. } => *shown = Shown::misplaced(),
         Item::Firmware(command) => command_event(
-            parts, number, frames, guests, actor, command, words, shown,
+            parts, number, frames, guests, actor, command, page, shown,
         ),
         Item::Skip { count, test } => *shown = skip(actor, *count, test),
     }

@@ -1,21 +1,22 @@
-ghost use Rattle.std.specs.Prelude.{◌≡◌, ◌≢◌, ◌<◌, ◌^◌, ℕ, List, length, slice_get, Some, None, IfOk, IsErr, IsSome};
-ghost use Rattle.snp_model.specs.declared.scenario.GuestSpec.{GuestSpec};
-ghost use Rattle.snp_model.specs.Bounds.{IsFirmwareCommand};
-ghost use Rattle.snp_model.specs.Entries.{with_lock};
+ghost use Rattle.std.specs.Prelude.{◌≡◌, ◌≢◌, ◌<◌, ℕ, length, slice_get, Some, IfOk, IsErr, IsOk, IsSome};
+ghost use Rattle.std.specs.Option.{option_or};
+ghost use Rattle.snp_model.specs.Entries.{facts_at, holder_at, with_lock};
 ghost use Rattle.snp_model.specs.Firmware.{guest_of, pages_of as named_pages};
-ghost use Rattle.snp_model.specs.FirmwareLocks.{page_extra};
-ghost use Rattle.snp_model.specs.FirmwareStep.{command_asid, firmware_move, take_page};
+ghost use Rattle.snp_model.specs.FirmwareLocks.{firmware_answer, page_extra, page_refusal};
+ghost use Rattle.snp_model.specs.FirmwareStep.{command_asid, take_page};
 ghost use Rattle.snp_model.specs.HeldLocks.{AreCommandLocks};
 ghost use Rattle.snp_model.specs.KeptLocks.{OwnsContext, OwnsLocks, recontexted, relocked};
 ghost use Rattle.snp_model.specs.Locks.{page_lock};
-ghost use Rattle.snp_model.specs.OpenAttempts.{IsCommand};
+ghost use Rattle.snp_model.specs.RegionWords.{page_at};
 ghost use Rattle.snp_model.specs.Touches.{page_touches};
 ghost use Rattle.machine_core.specs.Actors.{page_lock_of};
 ghost use Rattle.machine_core.specs.Bays.{HasFrame, HasTouched, contents_of, holders_of, locks_of, pages_of, view_on};
 ghost use Rattle.machine_core.specs.Commands.{command_page, named_refused, refusal_in};
-ghost use Rattle.machine_core.specs.Moves.{context_by, locks_by, move_by, standing_by};
+ghost use Rattle.machine_core.specs.Commits.{IsBoundedCommand};
+ghost use Rattle.machine_core.specs.Moves.{MakesNoPage, context_by, locks_by, move_by, standing_by};
 
 use crate::actor::ActorState;
+use crate::bay::Bay;
 use crate::command::{NamedPage, guest_of};
 use crate::cpu::asid_of;
 use crate::page::page_taken;
@@ -23,13 +24,15 @@ use crate::parts::Parts;
 use crate::refusal::release_all;
 use crate::shown::Shown;
 use crate::taken_lock::TakenLock;
-use snp_model::{Command, FwRefusal, GuestSpec};
+use fw_launch::page_test;
+use fw_swap::words_test;
+use snp_model::{Command, FwRefusal, GuestSpec, Part};
 
 /// An address is outside memory (SEV-SNP firmware ABI 56860, 6).
 const INVALID_ADDRESS: u16 = 0x09;
 
-/// The event that locks a page of a command that neither seals nor opens one, with its tests. Where it is refused, all that
-/// the attempt has locked is released.
+/// The event that locks a page of a command, with its tests. Where it is refused, all that the attempt has locked is
+/// released.
 #[tactic(auto, unfolding(snp_model::specs::FirmwareStep::take_page))]
 pub fn lock_named<P: Parts>(
     parts: &mut P,
@@ -41,7 +44,7 @@ pub fn lock_named<P: Parts>(
     named: NamedPage,
     shown: &mut Shown,
 )
-    requires command { IsFirmwareCommand command.now }
+    requires command { IsBoundedCommand command.now }
     requires next { slice_get (named_pages command.now) (length actor.now.standing.locks) ≡ Some (command_page named) }
     requires held { (guest : ℕ) → guest_of command.now ≡ Some guest → actor.now.standing.context_lock ≡ Some guest }
     requires has { HasTouched (page_touches frames actor.now.standing (command_page named)) (P.stock parts.old) }
@@ -53,6 +56,7 @@ pub fn lock_named<P: Parts>(
     ensures locks { (locks_of (P.stock parts.new)).holder ≡ relocked number (locks_by shown.new actor.now.standing) (locks_of (P.stock parts.old)).holder }
     ensures context_locks { (locks_of (P.stock parts.new)).context_holder ≡ recontexted number (context_by shown.new actor.now.standing) (locks_of (P.stock parts.old)).context_holder }
     ensures room { IsSome shown.new.lock → length actor.now.standing.locks < 3 }
+    ensures no_page { MakesNoPage shown.new.lock }
     ensures kept { P.kept parts.old parts.new }
 {
     let asid = command_asid(guests, command);
@@ -67,7 +71,7 @@ pub fn lock_named<P: Parts>(
 
 // The ASID of the guest that a command names, and 0 where it names none.
 fn command_asid(guests: &[GuestSpec], command: &Command) -> u16
-    requires { IsFirmwareCommand command.now }
+    requires { IsBoundedCommand command.now }
     ensures { result ≡ command_asid guests.now command.now }
 {
     match guest_of(command) {
@@ -76,8 +80,8 @@ fn command_asid(guests: &[GuestSpec], command: &Command) -> u16
     }
 }
 
-// The lock of a page of a command whose words are not tested, for an actor that doesn't hold it, with the tests of its frame
-// and its entry. Where it is refused, the locks stay.
+// The lock of a page of a command, for an actor that doesn't hold it, with the tests of its frame, its entry and its words.
+// Where it is refused, the locks stay.
 fn lock_page<P: Parts>(
     parts: &mut P,
     number: u32,
@@ -86,7 +90,7 @@ fn lock_page<P: Parts>(
     command: &Command,
     named: NamedPage,
 ) -> Result<TakenLock, FwRefusal>
-    requires words { (words : List ℕ) → page_extra command.now named.part asid words ≡ None }
+    requires command { IsBoundedCommand command.now }
     requires has { named.frame < frames → HasFrame (P.stock parts.old) named.frame }
     requires not_held { holders_of (P.stock parts.old).bays named.frame ≢ Some number }
     ensures refusal { refusal_in result ≡ named_refused frames asid command.now named (P.stock parts.old) }
@@ -103,8 +107,40 @@ fn lock_page<P: Parts>(
     let frame = named.frame as u32;
     let slot = (frame % 512) as usize;
     let bay = parts.bay_mut(frame / 512);
-    match fw_launch::page_lock(&mut bay.rmp, command, named.part, slot, asid, number) {
+    match lock_slot(bay, number, asid, command, named.part, slot) {
         Ok(()) => Ok(page_taken(frame, bay.rmp.effective(slot).size)),
         Err(refusal) => Err(refusal),
+    }
+}
+
+// The lock of the page in which a slot of a region stands, with the tests of its entry and of its words.
+fn lock_slot(
+    bay: &mut Bay,
+    number: u32,
+    asid: u16,
+    command: &Command,
+    part: Part,
+    slot: usize,
+) -> Result<(), FwRefusal>
+    requires command { IsBoundedCommand command.now }
+    requires slot { slot < 512 }
+    requires not_held { holder_at bay.old.rmp slot ≢ Some number }
+    ensures answer { result ≡ firmware_answer
+        (option_or (page_refusal command.now part (facts_at bay.old.rmp slot) (holder_at bay.old.rmp slot) asid) (page_extra command.now part asid (page_at bay.old.memory slot))) }
+    ensures memory { bay.new.memory ≡ bay.old.memory }
+    ensures facts { bay.new.rmp.facts ≡ bay.old.rmp.facts }
+    ensures locked { IsOk result → holder_at bay.new.rmp ≡ with_lock (page_lock (facts_at bay.old.rmp slot).size slot) number (holder_at bay.old.rmp) }
+    ensures refused { IsErr result → bay.new.rmp ≡ bay.old.rmp }
+{
+    match page_test(&bay.rmp, command, part, slot, asid) {
+        Err(refusal) => Err(refusal),
+        Ok(()) => match words_test(&bay.memory, &bay.rmp, slot, command, part, asid) {
+            Err(refusal) => Err(refusal),
+            Ok(()) => {
+                // No actor holds it, so it is taken.
+                let _ = bay.rmp.lock(slot, number);
+                Ok(())
+            }
+        },
     }
 }

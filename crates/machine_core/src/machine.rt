@@ -11,6 +11,7 @@ ghost use Rattle.machine_core.specs.Machine.{state_of};
 use crate::actor::ActorState;
 use crate::building::{free_parts, make_actors, set_pages, set_words};
 use crate::event::advance;
+use crate::made_page::MadePage;
 use crate::parts::{OwnParts, Parts};
 use crate::shown::Shown;
 use guest_context::GuestContext;
@@ -27,8 +28,8 @@ pub struct Machine {
     actors: Vec<ActorState>,
     // What the last event showed: a place for the next.
     shown: Shown,
-    // A place for the words of one page, for an event that makes a page.
-    words: [u64; 512],
+    // A place for one page, for an event that makes a page.
+    page: MadePage,
 }
 
 impl Model for Machine {
@@ -58,7 +59,7 @@ impl Machine {
             guests,
             actors,
             shown: Shown::faulted(),
-            words: [0; 512],
+            page: MadePage::new(),
         })
     }
 
@@ -78,7 +79,7 @@ impl Machine {
             frames,
             self.guests.as_slice(),
             &mut self.parts,
-            &mut self.words,
+            &mut self.page,
             &mut self.shown,
         )
     }

@@ -1,14 +1,14 @@
 ghost use Rattle.std.specs.Prelude.{◌≡◌, None, Some};
-ghost use Rattle.snp_model.specs.declared.event.Deed.TheVariants.{Control, Lock, LockContext};
+ghost use Rattle.snp_model.specs.declared.event.Deed.TheVariants.{Compute, Control, Lock, LockContext};
 ghost use Rattle.snp_model.specs.declared.event.Outcome.TheVariants.{Next};
 ghost use Rattle.snp_model.specs.FirmwareStep.{refused};
 ghost use Rattle.snp_model.specs.InstructionStep.{refused_outcome};
-ghost use Rattle.machine_core.specs.declared.taken_lock.Taken.TheVariants.{OfContext, OfPage};
+ghost use Rattle.machine_core.specs.declared.taken_lock.Taken.TheVariants.{Made, OfContext, OfPage};
 
 use crate::taken_lock::{Taken, TakenLock};
 use snp_model::{Deed, FwRefusal, Outcome, Refusal};
 
-/// What an event shows: what was done, how the attempt ended, if it did, and the lock that was taken.
+/// What an event shows: what was done, how the attempt ended, if it did, and what was locked or made.
 #[derive(Clone, Copy)]
 pub struct Shown {
     pub deed: Deed,
@@ -70,6 +70,24 @@ impl Shown {
             outcome: None,
             lock: Some(Taken::OfContext(guest)),
         }
+    }
+
+    /// The event of a compute, which has made a page at the place for it.
+    pub fn made() -> Shown
+        ensures { result ≡ record { deed = Compute; outcome = None; lock = Some Made } }
+    {
+        Shown {
+            deed: Deed::Compute,
+            outcome: None,
+            lock: Some(Taken::Made),
+        }
+    }
+
+    /// The event of a compute that is refused.
+    pub fn compute_refused(refusal: FwRefusal) -> Shown
+        ensures { result ≡ record { deed = Compute; outcome = Some (refused refusal); lock = None } }
+    {
+        Shown::last(Deed::Compute, firmware_refused(refusal))
     }
 
     /// An event at which the lock of a guest's context is refused.

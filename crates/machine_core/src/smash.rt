@@ -10,7 +10,7 @@ ghost use Rattle.snp_model.specs.RmpUpdate.{is_bad_smash, pages_smashed};
 ghost use Rattle.snp_model.specs.State.{nothing_taken};
 ghost use Rattle.snp_model.specs.Touches.{instruction_touches};
 ghost use Rattle.machine_core.specs.Bays.{HasFrame, HasTouched, contents_of, holders_of, locks_of, pages_of, view_on};
-ghost use Rattle.machine_core.specs.Moves.{TakesNoContext, lock_shown, locks_by, move_by, standing_by};
+ghost use Rattle.machine_core.specs.Moves.{TakesPageAlone, lock_shown, locks_by, move_by, standing_by};
 ghost use Rattle.machine_core.specs.Ranges.{HoldsLock, HoldsNone, IsTestedPage, smash_refused};
 
 use crate::actor::ActorState;
@@ -37,7 +37,7 @@ pub fn smash_event<P: Parts>(
     ensures moves { smash_move frames (view_on (P.stock parts.old) guests.now) actor.now frame actor.now.standing.locks
         ≡ move_by shown.new (view_on (P.stock parts.new) guests.now) (standing_by shown.new actor.now.standing) }
     ensures contexts { (P.stock parts.new).contexts ≡ (P.stock parts.old).contexts }
-    ensures no_context { TakesNoContext shown.new.lock }
+    ensures page_alone { TakesPageAlone shown.new.lock }
     ensures locks { (locks_of (P.stock parts.new)).holder ≡ relocked number (locks_by shown.new actor.now.standing) (locks_of (P.stock parts.old)).holder }
     ensures room { IsSome shown.new.lock → length actor.now.standing.locks < 3 }
     ensures kept { P.kept parts.old parts.new }
@@ -56,7 +56,7 @@ fn lock_page<P: Parts>(parts: &mut P, number: u32, frames: u32, frame: u64, show
     ensures shown { shown.new ≡ lock_shown (page_lock (pages_of (P.stock parts.old).bays frame).facts.size frame) (smash_refused frames frame (P.stock parts.old)) }
     ensures pages { pages_of (P.stock parts.new).bays ≡ pages_of (P.stock parts.old).bays }
     ensures contexts { (P.stock parts.new).contexts ≡ (P.stock parts.old).contexts }
-    ensures no_context { TakesNoContext shown.new.lock }
+    ensures page_alone { TakesPageAlone shown.new.lock }
     ensures locks { holders_of (P.stock parts.new).bays ≡ relocked number (locks_by shown.new nothing_taken) (holders_of (P.stock parts.old).bays) }
     ensures kept { P.kept parts.old parts.new }
 {
@@ -80,7 +80,7 @@ fn commit_page<P: Parts>(parts: &mut P, number: u32, frame: u64, shown: &mut Sho
     ensures shown { shown.new ≡ record { deed = Commit frame (pages_of (P.stock parts.old).bays frame).facts.gpn Large; outcome = Some (Status 0); lock = None } }
     ensures pages { pages_of (P.stock parts.new).bays ≡ pages_smashed (page_lock Large frame) (pages_of (P.stock parts.old).bays) }
     ensures contexts { (P.stock parts.new).contexts ≡ (P.stock parts.old).contexts }
-    ensures no_context { TakesNoContext shown.new.lock }
+    ensures page_alone { TakesPageAlone shown.new.lock }
     ensures locks { holders_of (P.stock parts.new).bays ≡ relocked number [] (holders_of (P.stock parts.old).bays) }
     ensures kept { P.kept parts.old parts.new }
 {

@@ -9,9 +9,11 @@ pub struct TakenLock {
     pub count: u32,
 }
 
-/// What one event of an open attempt has locked: a page, or the context of a guest.
+/// What one event of an open attempt has taken or made: the lock of a page, that of the context of a guest, or the page at the
+/// place for one that is made.
 #[derive(Clone, Copy)]
 pub enum Taken {
     OfPage(TakenLock),
     OfContext(u8),
+    Made,
 }

@@ -9,7 +9,7 @@ ghost use Rattle.snp_model.specs.RmpUpdate.{is_bad_update, pages_updated, update
 ghost use Rattle.snp_model.specs.State.{nothing_taken};
 ghost use Rattle.snp_model.specs.Touches.{instruction_touches};
 ghost use Rattle.machine_core.specs.Bays.{HasFrame, HasTouched, contents_of, holders_of, locks_of, pages_of, view_on};
-ghost use Rattle.machine_core.specs.Moves.{TakesNoContext, lock_shown, locks_by, move_by, standing_by};
+ghost use Rattle.machine_core.specs.Moves.{TakesPageAlone, lock_shown, locks_by, move_by, standing_by};
 ghost use Rattle.machine_core.specs.Ranges.{HoldsLock, HoldsNone, IsTestedRange, update_refused};
 
 use crate::actor::ActorState;
@@ -35,7 +35,7 @@ pub fn update_event<P: Parts>(
     ensures moves { update_move frames (view_on (P.stock parts.old) guests.now) actor.now update.now actor.now.standing.locks
         ≡ move_by shown.new (view_on (P.stock parts.new) guests.now) (standing_by shown.new actor.now.standing) }
     ensures contexts { (P.stock parts.new).contexts ≡ (P.stock parts.old).contexts }
-    ensures no_context { TakesNoContext shown.new.lock }
+    ensures page_alone { TakesPageAlone shown.new.lock }
     ensures locks { (locks_of (P.stock parts.new)).holder ≡ relocked number (locks_by shown.new actor.now.standing) (locks_of (P.stock parts.old)).holder }
     ensures room { IsSome shown.new.lock → length actor.now.standing.locks < 3 }
     ensures kept { P.kept parts.old parts.new }
@@ -54,7 +54,7 @@ fn lock_range<P: Parts>(parts: &mut P, number: u32, frames: u32, update: &Update
     ensures shown { shown.new ≡ lock_shown (update_lock update.now) (update_refused frames update.now (P.stock parts.old)) }
     ensures pages { pages_of (P.stock parts.new).bays ≡ pages_of (P.stock parts.old).bays }
     ensures contexts { (P.stock parts.new).contexts ≡ (P.stock parts.old).contexts }
-    ensures no_context { TakesNoContext shown.new.lock }
+    ensures page_alone { TakesPageAlone shown.new.lock }
     ensures locks { holders_of (P.stock parts.new).bays ≡ relocked number (locks_by shown.new nothing_taken) (holders_of (P.stock parts.old).bays) }
     ensures kept { P.kept parts.old parts.new }
 {
@@ -78,7 +78,7 @@ fn commit_range<P: Parts>(parts: &mut P, number: u32, update: &Update, shown: &m
     ensures shown { shown.new ≡ record { deed = Commit update.now.frame update.now.gpn update.now.size; outcome = Some (Status 0); lock = None } }
     ensures pages { pages_of (P.stock parts.new).bays ≡ pages_updated update.now (update_lock update.now) (pages_of (P.stock parts.old).bays) }
     ensures contexts { (P.stock parts.new).contexts ≡ (P.stock parts.old).contexts }
-    ensures no_context { TakesNoContext shown.new.lock }
+    ensures page_alone { TakesPageAlone shown.new.lock }
     ensures locks { holders_of (P.stock parts.new).bays ≡ relocked number [] (holders_of (P.stock parts.old).bays) }
     ensures kept { P.kept parts.old parts.new }
 {

@@ -13,7 +13,7 @@ ghost use Rattle.snp_model.specs.Validation.{carry, pages_validated, validate_re
 ghost use Rattle.snp_model.specs.Walking.{guest_stands, guest_words};
 ghost use Rattle.machine_core.specs.Actors.{IsBegun};
 ghost use Rattle.machine_core.specs.Bays.{HasFrame, HasTouched, contents_of, holders_of, locks_of, pages_of, view_on};
-ghost use Rattle.machine_core.specs.Moves.{TakesNoContext, lock_shown, locks_by, move_by, processor_of, standing_by};
+ghost use Rattle.machine_core.specs.Moves.{TakesPageAlone, lock_shown, locks_by, move_by, processor_of, standing_by};
 ghost use Rattle.machine_core.specs.Ranges.{HoldsLock, HoldsNone, IsLockOfPage, page_refused};
 
 use crate::actor::ActorState;
@@ -55,7 +55,7 @@ pub fn validate_event<P: Parts>(
     ensures moves { cpu_validate frames guests.now (view_on (P.stock parts.old) guests.now) actor.now (processor_of cpu) ask.now.address ask.now.size ask.now.validate
         ≡ move_by shown.new (view_on (P.stock parts.new) guests.now) (standing_by shown.new actor.now.standing) }
     ensures contexts { (P.stock parts.new).contexts ≡ (P.stock parts.old).contexts }
-    ensures no_context { TakesNoContext shown.new.lock }
+    ensures page_alone { TakesPageAlone shown.new.lock }
     ensures locks { (locks_of (P.stock parts.new)).holder ≡ relocked number (locks_by shown.new actor.now.standing) (locks_of (P.stock parts.old)).holder }
     ensures room { IsSome shown.new.lock → length actor.now.standing.locks < 3 }
     ensures kept { P.kept parts.old parts.new }
@@ -107,7 +107,7 @@ fn validate_page<P: Parts>(
     ensures moves { validate_move guests.now (view_on (P.stock parts.old) guests.now) actor.now (processor_of cpu) ask.now.size ask.now.validate actor.now.standing.locks at.now.gpn at.now.private at.now.frame at.now.size
         ≡ move_by shown.new (view_on (P.stock parts.new) guests.now) (standing_by shown.new actor.now.standing) }
     ensures contexts { (P.stock parts.new).contexts ≡ (P.stock parts.old).contexts }
-    ensures no_context { TakesNoContext shown.new.lock }
+    ensures page_alone { TakesPageAlone shown.new.lock }
     ensures locks { (locks_of (P.stock parts.new)).holder ≡ relocked number (locks_by shown.new actor.now.standing) (locks_of (P.stock parts.old)).holder }
     ensures room { IsSome shown.new.lock → length actor.now.standing.locks < 3 }
     ensures kept { P.kept parts.old parts.new }
@@ -136,7 +136,7 @@ fn lock_page<P: Parts>(
     ensures shown { shown.new ≡ lock_shown (page_lock (pages_of (P.stock parts.old).bays frame).facts.size frame) (page_refused (validate_refusal place.now size) frame (P.stock parts.old)) }
     ensures pages { pages_of (P.stock parts.new).bays ≡ pages_of (P.stock parts.old).bays }
     ensures contexts { (P.stock parts.new).contexts ≡ (P.stock parts.old).contexts }
-    ensures no_context { TakesNoContext shown.new.lock }
+    ensures page_alone { TakesPageAlone shown.new.lock }
     ensures locks { holders_of (P.stock parts.new).bays ≡ relocked number (locks_by shown.new nothing_taken) (holders_of (P.stock parts.old).bays) }
     ensures kept { P.kept parts.old parts.new }
 {
@@ -163,7 +163,7 @@ fn commit_page<P: Parts>(
     ensures pages { let own = (pages_of (P.stock parts.old).bays at.now.frame).facts in
         pages_of (P.stock parts.new).bays ≡ pages_validated ask.now.validate own (page_lock own.size at.now.frame) (pages_of (P.stock parts.old).bays) }
     ensures contexts { (P.stock parts.new).contexts ≡ (P.stock parts.old).contexts }
-    ensures no_context { TakesNoContext shown.new.lock }
+    ensures page_alone { TakesPageAlone shown.new.lock }
     ensures locks { holders_of (P.stock parts.new).bays ≡ relocked number [] (holders_of (P.stock parts.old).bays) }
     ensures kept { P.kept parts.old parts.new }
 {

@@ -1,18 +1,15 @@
 use Rattle.std.proofs.Common.{ℕ, ap, sym, ◌∙◌}
 use Rattle.machine_core.specs.Bays.{GuestContexts, contents_of, contexts_of}
 use Rattle.machine_core.specs.Commands.{command_page, named_refused, refusal_in}
-use Rattle.machine_core.proofs.NamedLockLaws.{lock_room, locks_within, named_has, next_unheld, no_extra, refusal_shows, release_has, taken_shows}
+use Rattle.machine_core.proofs.NamedLockLaws.{lock_room, locks_within, named_has, next_unheld, refusal_shows, release_has, taken_shows}
 use Rattle.machine_core.proofs.firmware.lock_named.Goals as goal
-
-pub lock_page-requires-clause-words : goal.lock_page-requires-clause-words
-lock_page-requires-clause-words g c = no_extra c.args.command.now c.args.named.part c.command_asid-asid.result c.requires.command
 
 pub lock_page-requires-clause-has : goal.lock_page-requires-clause-has
 lock_page-requires-clause-has g c = named_has c.args.frames c.args.actor.now.standing (command_page c.args.named) (g.P.Parts.stock c.args.parts.now) c.requires.has
 
 pub lock_page-requires-clause-not_held : goal.lock_page-requires-clause-not_held
 lock_page-requires-clause-not_held g c =
-    next_unheld c.args.frames c.args.guests.now c.args.number c.args.command.now c.args.actor.now (command_page c.args.named) (g.P.Parts.stock c.args.parts.now) c.requires.command c.requires.next c.requires.held c.requires.tested
+    next_unheld c.args.frames c.args.guests.now c.args.number c.args.command.now c.args.actor.now (command_page c.args.named) (g.P.Parts.stock c.args.parts.now) c.requires.next c.requires.held c.requires.tested
     c.requires.owns
 
 pub release_all-requires-clause-has : goal.release_all-requires-clause-has
@@ -32,7 +29,7 @@ returns-in-Ok-clause-moves g c =
     c.in-Ok.ensures.taken c.locked.ensures c.lock_page.ensures.pages c.lock_page.ensures.contexts
 
 pub returns-in-Ok-clause-room : goal.returns-in-Ok-clause-room
-returns-in-Ok-clause-room g c = λ some. lock_room c.args.command.now c.args.actor.now.standing.locks (command_page c.args.named) c.requires.command c.requires.next
+returns-in-Ok-clause-room g c = λ some. lock_room c.args.command.now c.args.actor.now.standing.locks (command_page c.args.named) c.requires.next
 
 pub returns-in-Err-clause-moves : goal.returns-in-Err-clause-moves
 returns-in-Err-clause-moves g c =

@@ -15,39 +15,44 @@ pub returns-then-from-named-clause-refusal : goal.returns-then-from-named-clause
 returns-then-from-named-clause-refusal g c =
     sym (outside_refused c.args.frames c.args.asid c.args.command.now c.args.named (g.P.Parts.stock c.args.parts.now) (omega (arith, c.if-from-named.true, c.from.ensures)))
 
-pub page_lock-requires-clause-not_held : goal.page_lock-requires-clause-not_held
-page_lock-requires-clause-not_held g c =
+pub lock_slot-requires-clause-not_held : goal.lock_slot-requires-clause-not_held
+lock_slot-requires-clause-not_held g c =
     λ held. c.requires.not_held (own_holder (g.P.Parts.stock c.args.parts.now).bays c.bay_mut-bay.result.now c.args.named.frame c.bay_mut-bay.ensures.value ∙ held)
 
 pub returns-in-Ok-clause-refusal : goal.returns-in-Ok-clause-refusal
 returns-in-Ok-clause-refusal g c =
-    sym (named_there c.args.frames c.args.asid c.args.command.now c.args.named (g.P.Parts.stock c.args.parts.now) c.bay_mut-bay.result.now c.bay_mut-bay.ensures.value (omega (arith, c.if-from-named.false, c.from.ensures)) c.requires.words
-    ∙ answer_none _ _ _ c.in-Ok.is c.page_lock.ensures.answer)
+    sym (named_there c.args.frames c.args.asid c.args.command.now c.args.named (g.P.Parts.stock c.args.parts.now) c.bay_mut-bay.result.now c.bay_mut-bay.ensures.value (omega (arith, c.if-from-named.false, c.from.ensures))
+    ∙ answer_none _ _ _ c.in-Ok.is c.lock_slot.ensures.answer)
 
 pub returns-in-Err-clause-refusal : goal.returns-in-Err-clause-refusal
 returns-in-Err-clause-refusal g c =
-    sym (named_there c.args.frames c.args.asid c.args.command.now c.args.named (g.P.Parts.stock c.args.parts.now) c.bay_mut-bay.result.now c.bay_mut-bay.ensures.value (omega (arith, c.if-from-named.false, c.from.ensures)) c.requires.words
-    ∙ answer_some _ _ _ c.in-Err.is c.page_lock.ensures.answer)
+    sym (named_there c.args.frames c.args.asid c.args.command.now c.args.named (g.P.Parts.stock c.args.parts.now) c.bay_mut-bay.result.now c.bay_mut-bay.ensures.value (omega (arith, c.if-from-named.false, c.from.ensures))
+    ∙ answer_some _ _ _ c.in-Err.is c.lock_slot.ensures.answer)
 
 pub returns-in-Ok-clause-taken : goal.returns-in-Ok-clause-taken
 returns-in-Ok-clause-taken g c =
     let frame = c.args.named.frame in
     ap page_lock_of c.page_taken.ensures
     ∙ ap (λ (e : RmpEntry). page_lock e.size frame)
-    (c.effective.ensures ∙ (λ i. get_or (c.page_lock.ensures.facts i) (frame % 512) free_entry) ∙ sym (own_facts (g.P.Parts.stock c.args.parts.now).bays c.bay_mut-bay.result.now frame c.bay_mut-bay.ensures.value))
+    (c.effective.ensures ∙ (λ i. get_or (c.lock_slot.ensures.facts i) (frame % 512) free_entry) ∙ sym (own_facts (g.P.Parts.stock c.args.parts.now).bays c.bay_mut-bay.result.now frame c.bay_mut-bay.ensures.value))
 
 pub returns-in-Ok-clause-pages : goal.returns-in-Ok-clause-pages
 returns-in-Ok-clause-pages g c =
     pages_stay _ _ _ c.bay_mut-bay.result.now _ (record { there = c.bay_mut-bay.ensures.value; stock_is = g.met.P.Parts.bay_written _ _ _ (c.requires.has (omega (arith, c.if-from-named.false, c.from.ensures))) })
-    (λ i slot. let p : Page = record { facts = get_or (c.page_lock.ensures.facts i) slot free_entry; words = page_at c.bay_mut-bay.result.now.memory slot } in p)
+    (λ i slot. let p : Page = record { facts = get_or (c.lock_slot.ensures.facts i) slot free_entry; words = page_at (c.lock_slot.ensures.memory i) slot } in p)
 
 pub returns-in-Ok-clause-locked : goal.returns-in-Ok-clause-locked
 returns-in-Ok-clause-locked g c =
     named_locked _ _ c.args.number c.args.named.frame c.bay_mut-bay.result.now _ (page_lock_of c.page_taken.result)
     (record { there = c.bay_mut-bay.ensures.value; stock_is = g.met.P.Parts.bay_written _ _ _ (c.requires.has (omega (arith, c.if-from-named.false, c.from.ensures))) })
-    (c.page_lock.ensures.locked (rw c.in-Ok.is refl)) (returns-in-Ok-clause-taken g c)
+    (c.lock_slot.ensures.locked (rw c.in-Ok.is refl)) (returns-in-Ok-clause-taken g c)
 
 pub returns-in-Err-clause-refused : goal.returns-in-Err-clause-refused
 returns-in-Err-clause-refused g c = λ e.
     holders_stay _ _ _ c.bay_mut-bay.result.now _ (record { there = c.bay_mut-bay.ensures.value; stock_is = g.met.P.Parts.bay_written _ _ _ (c.requires.has (omega (arith, c.if-from-named.false, c.from.ensures))) })
-    (λ i slot. get_or (c.page_lock.ensures.refused (rw c.in-Err.is refl) i).holders slot None)
+    (λ i slot. get_or (c.lock_slot.ensures.refused (rw c.in-Err.is refl) i).holders slot None)
+
+pub returns-in-Err-clause-pages : goal.returns-in-Err-clause-pages
+returns-in-Err-clause-pages g c =
+    pages_stay _ _ _ c.bay_mut-bay.result.now _ (record { there = c.bay_mut-bay.ensures.value; stock_is = g.met.P.Parts.bay_written _ _ _ (c.requires.has (omega (arith, c.if-from-named.false, c.from.ensures))) })
+    (λ i slot. let p : Page = record { facts = get_or (c.lock_slot.ensures.facts i) slot free_entry; words = page_at (c.lock_slot.ensures.memory i) slot } in p)
