@@ -90,6 +90,28 @@ EXPLAINED = [
     ('pages_of_page_move', ['row 1 "the frame isn\'t in memory"', 'frame 1536 is outside memory, which has 1536 frames',
                             'row 3 "the page is of 2 MB, and the command isn\'t `page_reclaim`"',
                             'frame 10 is in the state Guest-Valid, which `page_move` doesn\'t take there: it takes Pre-Swap']),
+    ('page_changed_on_disk', ['the compute, row 1 "`swap_in`, `md_in` and `md_root_in`: the tags differ"',
+                              'frame 11 had the ciphertext that event 16 sealed, and words of it were written since',
+                              'frame 8 is the firmware\'s (Reclaim), and the access is of guest 1; event 17, `swap_out 1 8 11 10 0` of actor 3']),
+    ('old_ciphertext_under_a_newer_entry', [
+        'frame 11 has the ciphertext that event 16 sealed for guest 1 under counter 0, and entry 0 of frame 10 is for the one that event 41']),
+    ('ciphertext_of_another_entry', [
+        'frame 11 has the ciphertext that event 12 sealed for guest 1 under counter 0, and entry 1 of frame 10 is for the one that event 18',
+        'frame 13 is page 1 of guest 1, and page 0 was asked; event 34, `page_reclaim 13` of actor 3, changed the entry last']),
+    ('metadata_page_under_the_root', ['row 9 "`md_root_out`: the root is in use"', 'row 10 "`md_root_in`: the root isn\'t in use"',
+                                      'the root of guest 1 is that of a metadata page of guest 1, under counter 1',
+                                      'frame 10 is in the state Firmware, which `swap_in` doesn\'t take there: it takes Metadata']),
+    ('contexts_of_md_root_out', ['row 8 "`swap_out`, `md_out` and `md_root_out`: the guest\'s counter is at its end"',
+                                 'the counter of guest 5 is 18446744073709551615']),
+    ('pages_of_md_out', ['row 6 "the source of `md_out` and `md_root_out`: an entry in use is another guest\'s"',
+                         'because: entry 63 there is that of guest 2', 'row 7 "the metadata page of `swap_out` and `md_out`: the entry is in use"',
+                         'because: entry 0 of frame 15 is that of a metadata page of guest 1, under counter 2']),
+    ('pages_of_swap_in', ['row 8 "the metadata page of `swap_in` and `md_in`: the entry isn\'t in use, or is of another kind"',
+                          'entry 1 of frame 15 isn\'t in use', 'entry 4 of frame 15 is that of a metadata page of guest 2, under counter 1',
+                          'row 9 "the metadata page of `swap_in` and `md_in`: the entry is another guest\'s"',
+                          'entry 3 of frame 15 is that of page 0x18 of guest 2, under counter 0, and the command is for guest 1']),
+    ('foreign_metadata_that_meets_a_tag', ['row 2 "`md_in` and `md_root_in`: the opened page has an entry in use of another guest"',
+                                           'because: entry 0 there is that of guest 2']),
     ('race_for_one_entry', ['RMPUPDATE, row 2 "a frame of the range is locked"',
                             'actor 1 holds it; the item is attempted again, retry 1 of 1\n',
                             'actor 1 holds the lock of frame 9, which event 0 took for `rmpupdate 9 4k 1 1 3 0`',
@@ -144,6 +166,17 @@ EXPLAINED_EVENTS = [
     ('page_moved_under_a_running_guest', 31, ['and is Guest-Invalid: its guest has to accept it']),
     ('facts_of_reclaimed_pages', 86, ['a metadata page with zero words']),
     ('reclaim_of_a_large_page', 12, ['frame 515, and the whole page of 2 MB that it stands in, isn\'t immutable any more']),
+    ('round_of_a_pager', 11, ['the words of frame 8 are copied and sealed, under counter 0 of guest 1']),
+    ('round_of_a_pager', 12, ['frame 20 gets the ciphertext; frame 8 becomes a page in the state Reclaim, with zero words; entry 0 of frame 10',
+                              'the counter of guest 1 is now 1']),
+    ('round_of_a_pager', 37, ['the words of frame 20 are copied and opened; entry 0 of frame 10 is that of page 0 of guest 1, under counter 0']),
+    ('round_of_a_pager', 38, ['frame 8 becomes page 0 of guest 1 again (Pre-Swap)', 'entry 0 of frame 10 is cleared']),
+    ('round_of_a_pager', 47, ['`swap_in 1 20 8 10 0` of actor 3, opened the page here from frame 20, with the words that frame 8 had as event 11']),
+    ('metadata_page_under_the_root', 18, ['frame 10 is a Firmware page again, with zero words; the root of guest 1 is written']),
+    ('metadata_page_under_the_root', 38, ['frame 15 is the metadata page that was sealed; the root of guest 1 is cleared']),
+    ('swap_of_an_unvalidated_page', 19, ['frame 9 becomes page 0 of guest 1 again (Pre-Guest)']),
+    ('words_of_a_swapped_page', 24, ['`swap_out 1 8 11 10 0` of actor 3, put the ciphertext of the page of frame 8 here']),
+    ('foreign_ciphertext_that_meets_a_tag', 21, ['a foreign ciphertext meets this tag: what is promised of the guest\'s memory ends here']),
     ('updates_and_their_refusals', 18, ['frames 512 to 1023 become immutable; all else stays, the words too']),
     ('words_of_updated_frames', 9, ['frame 20 becomes the firmware\'s (Reclaim); the words stay']),
 ]
@@ -172,6 +205,17 @@ MISFITS = [
     ('launch_of_three_pages', '25 2 6.0 commitg 1 fw 0x0', '25 2 6.0 lock 8', 'this should be the commit'),
     ('launch_of_three_pages', '24 2 6.0 lockg 1', '24 2 6.0 lockg 1 fw 0x2', 'this should be let through'),
     ('guest_that_starts_with_what_was_launched', '0x1:0 9 p load 0x0', '0x1:0 9 p load 0x9', 'this word should be 0x0'),
+    ('round_of_a_pager', '0x0:2 8 p load 0x5', '0x0:2 8 p load 0x6', 'this word should be 0x5'),
+    ('round_of_a_pager', '11 3 1.0 compute\n', '11 3 1.0 commit 8 0x0 4k fw 0x0\n', 'this should be `compute`'),
+    ('round_of_a_pager', '12 3 1.0 commit 8 0x0 4k fw 0x0\n', '12 3 1.0 commit 20 0x0 4k fw 0x0\n', 'this should be `commit 8 0x0 4k fw 0x0`'),
+    ('round_of_a_pager', 'commit 8 0x1 4k fw 0x0', 'commit 8 0x0 4k fw 0x0', 'this should be `commit 8 0x1 4k fw 0x0`'),
+    ('page_changed_on_disk', 'fw 0xb found 690e', 'fw 0xb found 691e', 'this should be `fw 0xb found 690eff2f3be4d2b9c11b7d51a8556f2a kept'),
+    ('page_changed_on_disk', '31 3 2.0 compute fw 0xb found 690eff2f3be4d2b9c11b7d51a8556f2a kept f68c49d0a3134366492b1a94c125cb02\n',
+     '31 3 2.0 compute\n', 'this should be `fw 0xb found'),
+    ('page_changed_on_disk', '37 3 3.0 compute\n', '37 3 3.0 compute fw 0x1c\n', 'this should be let through'),
+    ('words_of_a_swapped_page', 'host 11:511 load 0x9047381d870d3e61', 'host 11:511 load 0x9047381d870d3e60', 'should be 0x9047381d870d3e61'),
+    ('metadata_page_under_the_root', '39 3 8.0 lockg 1 fw 0x1b', '39 3 8.0 lockg 1', 'this should be `fw 0x1b`'),
+    ('contexts_of_swap_out', 'lockg 3 fw 0x1d', 'lockg 3', 'this should be `fw 0x1d`'),
 ]
 
 # Commands that must be refused: arguments, input, and what must be said.
@@ -470,6 +514,16 @@ REDUCED_FIRMWARE = [
     'actor 1 fw\npage_move 1 8 9\nmd_init 9\nactor 2 fw\npage_move 1 9 8 retry 1\nactor 3 host\nrmpupdate 9 4k 1 0 0 1\n',
     'actor 1 host\nrmpupdate 20 4k 1 0 0 1\nactor 2 fw\ngctx_create 2 20\nlaunch_start 2\nactor 3 cpu 2 vmpl 0 npt 1 flat\nload 0x10\n',
     'actor 1 host\nrmpupdate 8 4k 1 1 0 1\nactor 2 fw\npage_reclaim 8\nactor 3 cpu 1 vmpl 0 npt 4 flat\nload 0x10\n',
+]
+# The same with pages that are sealed and opened, behind SEALING_HEAD: the scripts, and how many events of the firmware come first,
+# behind those of the hypervisor.
+SEALING_HEAD = 'actor 1 host\nrmpupdate 10 4k 1 0 0 1\nrmpupdate 8 4k 1 1 0 1\nrmpupdate 9 4k 1 1 0 1\nactor 2 fw\nmd_init 10\n'
+REDUCED_SEALING = [
+    ('swap_out 1 8 11 10 0\nactor 3 host\nstore 0xb000 1\nload 0xb000\n', 2),
+    ('swap_out 1 8 11 10 0\nactor 3 fw\npage_reclaim 10 retry 1\n', 2),
+    ('swap_out 1 8 11 10 0\nswap_in 1 11 9 10 0\nactor 3 host\nstore 0xb000 1\n', 8),
+    ('swap_out 1 8 11 10 0\nswap_in 1 11 9 10 0\nactor 3 cpu 1 vmpl 0 npt 1 flat\nload 0x10\n', 11),
+    ('md_root_out 1 10 12\nactor 3 fw\nswap_out 1 8 11 10 0\n', 2),
 ]
 # The same of a page of 2 MB at frame 512.
 REDUCED_LARGE = [
