@@ -42,10 +42,10 @@ bounded (commands.LaunchUpdate g frame page_type imi perms) is = record { guest 
 bounded (commands.LaunchFinish g) is = record { guest = λ guest named. some_guest g guest is.0 named; entry = tt }
 bounded (commands.MdInit frame) is = record { guest = λ guest named. absurd cc; entry = tt }
 bounded (commands.PageMove g source target) is = record { guest = λ guest named. some_guest g guest is.0 named; entry = tt }
-bounded (commands.SwapOut g source target metadata entry) is = absurd is
-bounded (commands.SwapIn g source target metadata entry) is = absurd is
+bounded (commands.SwapOut g source target metadata entry) is = record { guest = λ guest named. some_guest g guest is.0.0 named; entry = is.1 }
+bounded (commands.SwapIn g source target metadata entry) is = record { guest = λ guest named. some_guest g guest is.0.0 named; entry = is.1 }
 bounded (commands.Reclaim frame) is = record { guest = λ guest named. absurd cc; entry = tt }
-bounded (commands.MdOut g source target metadata entry) is = absurd is
-bounded (commands.MdIn g source target metadata entry) is = absurd is
-bounded (commands.MdRootOut g source target) is = absurd is
-bounded (commands.MdRootIn g source target) is = absurd is
+bounded (commands.MdOut g source target metadata entry) is = record { guest = λ guest named. some_guest g guest is.0.0 named; entry = is.1 }
+bounded (commands.MdIn g source target metadata entry) is = record { guest = λ guest named. some_guest g guest is.0.0 named; entry = is.1 }
+bounded (commands.MdRootOut g source target) is = record { guest = λ guest named. some_guest g guest is.0 named; entry = tt }
+bounded (commands.MdRootIn g source target) is = record { guest = λ guest named. some_guest g guest is.0 named; entry = tt }
