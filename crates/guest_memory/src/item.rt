@@ -1,7 +1,6 @@
 //! Which outcomes can belong to an item.
 
-ghost use Rattle.std.specs.Prelude.{◌≡◌, ◌≤◌};
-ghost use Rattle.snp_model.specs.Facts.{frames_in};
+ghost use Rattle.std.specs.Prelude.{◌≡◌};
 ghost use Rattle.snp_model.specs.Verdicts.{same_size};
 ghost use Rattle.guest_memory.specs.Uses.{asked_by, can_belong, is_commit, is_compare, is_exchange, is_load, is_store, may_belong, op_of};
 
@@ -133,16 +132,5 @@ pub(crate) fn same_size(size: PageSize, other: PageSize) -> bool
     match size {
         PageSize::Small => matches!(other, PageSize::Small),
         PageSize::Large => matches!(other, PageSize::Large),
-    }
-}
-
-/// How many frames a page has.
-pub(crate) fn frames_in(size: PageSize) -> u32
-    ensures frames { result ≡ frames_in size }
-    ensures most { result ≤ 512 }
-{
-    match size {
-        PageSize::Small => 1,
-        PageSize::Large => 512,
     }
 }

@@ -13,7 +13,7 @@ ghost use Rattle.guest_memory.specs.Pages.{IsPlaced};
 ghost use Rattle.guest_memory.specs.Uses.{can_belong, may_belong, use_by};
 
 use crate::ApplyFault;
-use crate::item::{frames_in, may_belong, same_size};
+use crate::item::{may_belong, same_size};
 use crate::opening::opening_words;
 use crate::page::Page;
 use crate::pages::{Pages, fill, hold, learn, let_go, make_room, page_at, unknown_pages};
@@ -92,7 +92,7 @@ impl GuestMemory {
         requires words { AllByRecursion (λ word. word.index < 512) words.now }
         ensures { OnOk result (self.new ≡ with_frames (words_from (λ _. zero_words) words.now) page.now.frame page.now.gpn (frames_in page.now.size) self.old) }
     {
-        for i in 0..frames_in(page.size) {
+        for i in 0..page.size.frames() {
             let content = opening_words(words, page.frame + i);
             self.launch(page.gpn + u64::from(i), &content)?;
         }
@@ -292,7 +292,7 @@ impl GuestMemory {
         if carry || !same_size(size, asked) {
             return Ok(());
         }
-        let count = u64::from(frames_in(size));
+        let count = u64::from(size.frames());
         if validate {
             self.accept(gpn, count)
         } else {
