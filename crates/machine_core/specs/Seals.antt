@@ -28,11 +28,12 @@ abbrev pub slot_by : slots.Slot → Slot
 slot_by (slot_variants.OfEntry metadata number) = OfEntry metadata number
 slot_by slot_variants.OfRoot = OfRoot
 
--- a page that is sealed, or opened
+-- a page that is sealed, or opened, by its parts
 abbrev pub sealed_by : ways.Way → What → ℕ → ℕ → ℕ → Slot → Sealing
 sealed_by way_variants.Out what guest source target slot = SealOut what guest source target slot
 sealed_by way_variants.In what guest source target slot = SealIn what guest source target slot
 
+-- what a command seals or opens
 abbrev pub sealing_by : sealings.Sealing → Sealing
 sealing_by sealing = sealed_by sealing.way (what_by sealing.what) sealing.guest sealing.source sealing.target (slot_by sealing.slot)
 
@@ -63,6 +64,7 @@ pub record HasEntry (metadata number : ℕ) (stock : Stock) : Type 0 where
   pub below : metadata < 2 ^ 32
   pub number_below : number < 64
 
+-- so does the entry at a slot; the root is in no page
 abbrev pub HasSlot : Slot → Stock → Type 0
 HasSlot (OfEntry metadata number) stock = HasEntry metadata number stock
 HasSlot OfRoot stock = Unit {0}
