@@ -1,34 +1,34 @@
 -- The line of an item that is written is read again as the same item, with its retries.
-use Rattle.std.proofs.Common.{◌≡◌, ◌⊎◌, ℕ, zero, suc, ◌+◌, ◌*◌, ◌^◌, ◌<◌, ◌≤◌, Bool, true, false, cond, List, [], ◌∷◌, ◌++◌, length, refl, sym, ◌∙◌, ap, subst, arith, inl, inr, ⊎_elim}
+use Rattle.std.proofs.Common.{◌≡◌, ◌⊎◌, ℕ, zero, suc, ◌+◌, ◌*◌, ◌^◌, ◌<◌, Bool, true, false, cond, List, [], ◌∷◌, ◌++◌, length, refl, sym, ◌∙◌, ap, subst, arith, inl, inr}
 use Rattle.std.specs.Prelude.{Result, Ok, Err, decimal, codes, bytes_eq, nat_le, ◌==◌}
-use Rattle.std.specs.List.{AllByRecursion, list_all}
+use Rattle.std.specs.List.{AllByRecursion}
 use Rattle.std.proofs.lemmas.Bool.Decides.{nat_tests}
 use Rattle.snp_model.specs.declared.entry.PageSize.{PageSize}
 use Rattle.snp_model.specs.declared.entry.PageSize.TheVariants.{Small, Large}
 use Rattle.snp_model.specs.declared.reading.Reason.{Reason}
 use Rattle.snp_model.specs.declared.reading.Reason.TheVariants.{Form}
 use Rattle.snp_model.specs.declared.item.Item.{Item}
-use Rattle.snp_model.specs.declared.item.Item.TheVariants.{Access, Psmash, Pvalidate, Rmpadjust, Rmpupdate, Skip}
+use Rattle.snp_model.specs.declared.item.Item.TheVariants.{Access, Psmash, Pvalidate, Skip}
 use Rattle.snp_model.specs.declared.item.Line.{Line}
-use Rattle.snp_model.specs.declared.item.Op.TheVariants.{Load, Store, Swap, Compare, Xor}
+use Rattle.snp_model.specs.declared.item.Op.TheVariants.{Load, Compare}
 use Rattle.snp_model.specs.declared.item.SkipTest.{SkipTest}
 use Rattle.snp_model.specs.declared.item.SkipTest.TheVariants.{Good, Bad, Value}
 use Rattle.snp_model.specs.declared.scenario.Paging.{Paging}
 use Rattle.snp_model.specs.declared.scenario.Role.{Role}
 use Rattle.snp_model.specs.declared.scenario.Role.TheVariants.{Cpu, Host, Firmware}
 use Rattle.snp_model.specs.EventText.{size_text}
-use Rattle.snp_model.specs.ItemLines.{once, address_word, load_row, store_row, swap_row, cas_row, xor_row, skip_test, skip_row, skip_value_row, skip_item, access_item, size_word, flag_word, retries_word, validate_row, smash_row, cpu_item, host_item, item_words, item_line}
-use Rattle.snp_model.specs.Lines.{◌>>=◌, ◌>>◌, below, decimal_of, fixed, is_row, multiple, number, number_of, ranged, word, words_of}
+use Rattle.snp_model.specs.ItemLines.{once, address_word, load_row, cas_row, skip_test, skip_row, skip_value_row, size_word, flag_word, retries_word, validate_row, smash_row, cpu_item, host_item, item_words, item_line}
+use Rattle.snp_model.specs.Lines.{◌>>=◌, ◌>>◌, below, decimal_of, fixed, multiple, number, number_of, ranged, word}
 use Rattle.snp_model.specs.Spelling.{behind, joined, flag_text, access_words, skip_words, item_said, retry_words, item_text}
-use Rattle.snp_model.proofs.LineLaws.{below_ok, bind_ok, guard_ok, multiple_ok, number_ok, ranged_ok, select, then_ok}
-use Rattle.script_text.proofs.SpellingLaws.{IsWord, below_again, below_small, decimal_word, joined_more, line_plain, number_again, ranged_again, ranged_small, words_again}
+use Rattle.snp_model.proofs.LineLaws.{bind_ok, multiple_ok, number_ok, ranged_ok, select, then_ok}
+use Rattle.script_text.proofs.SpellingLaws.{IsWord, all_words, below_again, below_small, decimal_word, joined_more, line_plain, number_again, ranged_again, ranged_small, words_again}
 
 -- what is written of a line is read as it
 abbrev pub Again : Role → ℕ → Line → Type 0
 Again role frames line = item_line role frames (item_text line) ≡ Ok line
 
 -- a line of words that say an item
-line_again : (role : Role) (frames : ℕ) (w : List ℕ) (ws rs : List (List ℕ)) (line : Line) → IsWord w → AllByRecursion IsWord (ws ++ rs)
+pub line_again : (role : Role) (frames : ℕ) (w : List ℕ) (ws rs : List (List ℕ)) (line : Line) → IsWord w → AllByRecursion IsWord (ws ++ rs)
     → nat_le (length (w ∷ (ws ++ rs))) 17 ≡ true → item_words role frames (w ∷ (ws ++ rs)) ≡ Ok line → item_line role frames (joined (w ∷ ws) ++ behind rs) ≡ Ok line
 unfolding item_line
 line_again role frames w ws rs line is are few said =
@@ -143,28 +143,28 @@ skip_value_again role frames ws line by h =
     (decimal_word count.0 (ranged_small 1 8192 (word ws 1) count.0 count.1), (refl, (refl, (decimal_word value.0 (number_ok (word ws 4) value.0 value.1), tt)))) refl (by count.0 value.0 ∙ rw (n, v) refl))
 
 -- sizes and flags
-size_again : (size : PageSize) → size_word (size_text size) ≡ Ok size
+pub size_again : (size : PageSize) → size_word (size_text size) ≡ Ok size
 unfolding size_word size_text
 size_again Small = refl
 size_again Large = refl
 
-size_spelled : (size : PageSize) → IsWord (size_text size)
+pub size_spelled : (size : PageSize) → IsWord (size_text size)
 unfolding size_text
 size_spelled Small = refl
 size_spelled Large = refl
 
-flag_again : (flag : Bool) → flag_word (flag_text flag) ≡ Ok flag
+pub flag_again : (flag : Bool) → flag_word (flag_text flag) ≡ Ok flag
 unfolding flag_word flag_text below number number_of decimal_of
 flag_again true = refl
 flag_again false = refl
 
-flag_spelled : (flag : Bool) → IsWord (flag_text flag)
+pub flag_spelled : (flag : Bool) → IsWord (flag_text flag)
 unfolding flag_text
 flag_spelled true = refl
 flag_spelled false = refl
 
 -- how often an item is tried again, as a line says it: never, or so many times
-abbrev IsTried : ℕ → Type 0
+abbrev pub IsTried : ℕ → Type 0
 IsTried n = (n ≡ 0) ⊎ ((ranged 1 255 (decimal n) ≡ Ok n) × (0 < n) × (n < 2 ^ 64))
 
 tried : (ws : List (List ℕ)) (count n : ℕ) → retries_word ws count ≡ Ok n → IsTried n
@@ -180,21 +180,17 @@ tried ws count n h =
     inr (ranged_again 1 255 w n named.2, omega (arith, (ranged_ok 1 255 w n named.2).0), ranged_small 1 255 w n named.2))
     h
 
-all_words : (ws vs : List (List ℕ)) → AllByRecursion IsWord ws → AllByRecursion IsWord vs → AllByRecursion IsWord (ws ++ vs)
-all_words [] vs are others = others
-all_words (w ∷ ws) vs are others = (are.0, all_words ws vs are.1 others)
-
-retry_some : (n : ℕ) → 0 < n → retry_words n ≡ codes "retry" ∷ decimal n ∷ []
+pub retry_some : (n : ℕ) → 0 < n → retry_words n ≡ codes "retry" ∷ decimal n ∷ []
 unfolding retry_words
 retry_some zero some = absurd (omega arith)
 retry_some (suc n) some = let e : (suc n == 0) ≡ false = grind (arith, nat_tests) in rw e refl
 
-retry_none : retry_words 0 ≡ []
+pub retry_none : retry_words 0 ≡ []
 unfolding retry_words
 retry_none = refl
 
 -- a line whose item may be tried again: it is read with no retries, and with each number of them
-retried_again : (role : Role) (frames : ℕ) (w : List ℕ) (ws : List (List ℕ)) (item : Item) (n : ℕ) → IsWord w → AllByRecursion IsWord ws
+pub retried_again : (role : Role) (frames : ℕ) (w : List ℕ) (ws : List (List ℕ)) (item : Item) (n : ℕ) → IsWord w → AllByRecursion IsWord ws
     → nat_le (length (w ∷ (ws ++ []))) 17 ≡ true → ((d : List ℕ) → nat_le (length (w ∷ (ws ++ codes "retry" ∷ d ∷ []))) 17 ≡ true)
     → item_words role frames (w ∷ (ws ++ [])) ≡ Ok (once item)
     → (ranged 1 255 (decimal n) ≡ Ok n → item_words role frames (w ∷ (ws ++ codes "retry" ∷ decimal n ∷ [])) ≡ Ok (let l : Line = record { item = item; retries = n } in l))

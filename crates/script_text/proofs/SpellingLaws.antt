@@ -1,6 +1,6 @@
 -- Words that are written are read again: numbers, and the words of a line.
 use Rattle.std.proofs.Common.{◌≡◌, ℕ, zero, suc, ◌+◌, ◌-◌, ◌*◌, ◌^◌, ◌<◌, ◌≤◌, Bool, true, false, cond, List, [], ◌∷◌, ◌++◌, length, get_or, refl, sym, ◌∙◌, ap, append_assoc, append-nil, arith}
-use Rattle.std.specs.Prelude.{Result, Ok, Err, decimal, codes, nat_le, nat_lt, ◌==◌, ◌&&◌}
+use Rattle.std.specs.Prelude.{Ok, Err, decimal, nat_le, nat_lt, ◌==◌, ◌&&◌}
 use Rattle.std.specs.List.{All, AllByRecursion, list_all}
 use Rattle.std.proofs.lemmas.Bool.Decides.{nat_tests}
 use Rattle.std.proofs.lemmas.Fmt.{decimal_digit, digits_decimal, digits_value-decimal, decimal_nonempty, first_decimal}
@@ -8,10 +8,10 @@ use Rattle.std.proofs.lemmas.List.Elements.{All-nil, All-cons}
 use Rattle.std.proofs.lemmas.List.Folds.{list_all-append}
 use Rattle.std.proofs.lemmas.List.Splits.{slice_split_at, slice_split_none}
 use Rattle.std.proofs.lemmas.Str.Parse.{IsDigitsTest, FoldsDigits, IsNumeralModel, numerals_by_fold}
-use Rattle.snp_model.specs.declared.reading.Reason.{Reason}
+use Rattle.snp_model.specs.Lines as lines
 use Rattle.snp_model.specs.Lines.{◌>>=◌, parts_at, words_of, is_plain, is_decimal, is_decimal_digit, is_prefixed, is_printable, digit_value, value_after, decimal_of, number_of, number, ranged, below, multiple}
 use Rattle.snp_model.specs.Spelling.{behind, joined, numbers}
-use Rattle.snp_model.proofs.LineLaws.{below_ok, bind_ok, guard_ok, multiple_ok, number_ok, ranged_ok}
+use Rattle.snp_model.proofs.LineLaws.{bind_ok, guard_ok, number_ok}
 
 -- the tests and the value of digits are those of std
 tells : IsDigitsTest (λ ds. list_all is_decimal_digit ds ≡ true)
@@ -32,7 +32,7 @@ folds = record { empty = λ n. refl; more = λ n c cs k. ap (λ (d : ℕ). value
 own : IsNumeralModel (λ ds. list_all is_decimal_digit ds ≡ true) (value_after 10 0)
 own = numerals_by_fold (λ ds. list_all is_decimal_digit ds ≡ true) tells (value_after 10) folds
 
-digits_only : (n : ℕ) → n < 2 ^ 64 → list_all is_decimal_digit (decimal n) ≡ true
+pub digits_only : (n : ℕ) → n < 2 ^ 64 → list_all is_decimal_digit (decimal n) ≡ true
 digits_only n h = digits_decimal own n h
 
 -- digits have no prefix
@@ -56,6 +56,13 @@ unfolding number number_of decimal_of
 number_decimal n h =
     let small : nat_lt n (2 ^ 64) ≡ true = grind (arith, nat_tests, h) in
     rw (no_prefix (decimal n) (digits_only n h), canonical n h, digits_value-decimal own n h, small) refl
+
+-- the same, where only base 10 is read
+pub decimal_again : (n : ℕ) → n < 2 ^ 64 → lines.decimal (decimal n) ≡ Ok n
+unfolding lines.decimal decimal_of
+decimal_again n h =
+    let small : nat_lt n (2 ^ 64) ≡ true = grind (arith, nat_tests, h) in
+    rw (canonical n h, digits_value-decimal own n h, small) refl
 
 -- the number of a word is read again
 pub number_again : (w : List ℕ) (n : ℕ) → number w ≡ Ok n → number (decimal n) ≡ Ok n
@@ -121,7 +128,7 @@ words_again w [] is are = ap words_of (append-nil w) ∙ slice_split_none (λ b.
 words_again w (v ∷ vs) is are =
     slice_split_at (λ b. b == 32) w 32 (v ++ behind vs) (no_spaces w is) refl ∙ ap (λ (others : List (List ℕ)). w ∷ others) (words_again v vs are.0 are.1)
 
-word_printable : (w : List ℕ) → IsWord w → list_all is_printable w ≡ true
+pub word_printable : (w : List ℕ) → IsWord w → list_all is_printable w ≡ true
 word_printable [] is = refl
 word_printable (b ∷ w) is =
     let first : is_printable b ≡ true = grind (arith, nat_tests, is) in
@@ -135,6 +142,11 @@ line_printable w (v ∷ vs) is are = list_all-append is_printable w (32 ∷ (v +
 -- so it is plain, if they are few
 pub line_plain : (w : List ℕ) (ws : List (List ℕ)) → IsWord w → AllByRecursion IsWord ws → nat_le (length (w ∷ ws)) 17 ≡ true → is_plain (joined (w ∷ ws)) ≡ true
 line_plain w ws is are few = rw (line_printable w ws is are, words_again w ws is are) few
+
+-- words and others behind them
+pub all_words : (ws vs : List (List ℕ)) → AllByRecursion IsWord ws → AllByRecursion IsWord vs → AllByRecursion IsWord (ws ++ vs)
+all_words [] vs are others = others
+all_words (w ∷ ws) vs are others = (are.0, all_words ws vs are.1 others)
 
 -- words behind others are one list of words
 behind_more : (ws vs : List (List ℕ)) → behind ws ++ behind vs ≡ behind (ws ++ vs)

@@ -1,5 +1,7 @@
-ghost use Rattle.std.specs.Prelude.{◌≡◌, ◌+◌, ◌≤◌, [], ◌∷◌, ◌++◌, length, take, decimal};
+ghost use Rattle.std.specs.Prelude.{◌≡◌, ℕ, ◌+◌, ◌^◌, ◌<◌, ◌≤◌, [], ◌∷◌, ◌++◌, length, take, decimal, Ok};
+ghost use Rattle.snp_model.specs.Bounds.{IsLineOf};
 ghost use Rattle.snp_model.specs.EventText.{size_text};
+ghost use Rattle.snp_model.specs.ItemLines.{item_line};
 ghost use Rattle.snp_model.specs.Spelling.{
   behind,
   joined,
@@ -13,6 +15,7 @@ ghost use Rattle.snp_model.specs.Spelling.{
   retry_words,
   item_text,
 };
+ghost use Rattle.script_text.specs.Written.{IsTriedBy, IsWide, IsWideCommand, IsWideTest};
 
 use crate::pen::{put, put_named};
 use snp_model::{Command, Item, Line, Op, PageSize, Role, SkipTest, Update};
@@ -84,10 +87,11 @@ fn put_access(out: &mut [u8], at: usize, address: u64, op: Op) -> usize
 
 // Writes an RMPUPDATE.
 #[tactic(auto, unfolding(snp_model::specs::Spelling::update_words))]
-fn put_update(out: &mut [u8], at: usize, update: &Update) -> usize
+fn put_update(out: &mut [u8], at: usize, update: Update) -> usize
     requires { at + 141 ≤ length out.old }
     ensures end { result ≤ at + 141 }
-    ensures text { take result out.new ≡ take at out.old ++ joined (update_words update.now) }
+    ensures wide { update.frame < 2 ^ 64 }
+    ensures text { take result out.new ≡ take at out.old ++ joined (update_words update) }
 {
     let end = put_named(out, at, b"rmpupdate ", update.frame);
     let end = put_size(out, end, update.size);
@@ -338,6 +342,7 @@ fn put_metadata_in(
 fn put_command(out: &mut [u8], at: usize, command: &Command) -> usize
     requires { at + 141 ≤ length out.old }
     ensures end { result ≤ at + 141 }
+    ensures wide { IsWideCommand command.now }
     ensures text { take result out.new ≡ take at out.old ++ joined (command_words command.now) }
 {
     match *command {
@@ -427,6 +432,7 @@ fn put_adjust(
 fn put_skip(out: &mut [u8], at: usize, count: u32, test: &SkipTest) -> usize
     requires { at + 141 ≤ length out.old }
     ensures end { result ≤ at + 141 }
+    ensures wide { IsWideTest test.now }
     ensures text { take result out.new ≡ take at out.old ++ joined (skip_words count test.now) }
 {
     let end = put_named(out, at, b"skip ", u64::from(count));
@@ -442,6 +448,7 @@ fn put_skip(out: &mut [u8], at: usize, count: u32, test: &SkipTest) -> usize
 fn put_item(out: &mut [u8], at: usize, item: &Item) -> usize
     requires { at + 141 ≤ length out.old }
     ensures end { result ≤ at + 141 }
+    ensures wide { IsWide item.now }
     ensures text { take result out.new ≡ take at out.old ++ joined (item_said item.now) }
 {
     match item {
@@ -458,7 +465,7 @@ fn put_item(out: &mut [u8], at: usize, item: &Item) -> usize
             mask,
             vmsa,
         } => put_adjust(out, at, *address, *size, *target, *mask, *vmsa),
-        Item::Rmpupdate(update) => put_update(out, at, update),
+        Item::Rmpupdate(update) => put_update(out, at, *update),
         Item::Psmash { frame } => put_named(out, at, b"psmash ", *frame),
         Item::Firmware(command) => put_command(out, at, command),
         Item::Skip { count, test } => put_skip(out, at, *count, test),
@@ -479,13 +486,25 @@ fn put_retries(out: &mut [u8], at: usize, retries: u8) -> usize
     }
 }
 
-/// Writes the line of an item, without a line feed, into the front of a buffer, and gives its length. The rest of the
-/// buffer may be anything. No line depends on the role of its actor.
+// Writes the line of an item into the front of a buffer.
 #[tactic(auto, unfolding(snp_model::specs::Spelling::item_text))]
-pub fn write_item(_role: &Role, line: &Line, out: &mut [u8; 256]) -> usize
+fn put_line(line: &Line, out: &mut [u8; 256]) -> usize
     ensures end { result ≤ 168 }
+    ensures wide { IsWide line.now.item }
     ensures text { take result out.new ≡ item_text line.now }
 {
     let end = put_item(out, 0, &line.item);
     put_retries(out, end, line.retries)
+}
+
+/// Writes the line of an item, without a line feed, into the front of a buffer, and gives its length. The rest of the
+/// buffer may be anything. No line depends on the role of its actor. What is written of a line that the formats allow
+/// for the role, in a memory of so many frames, is read again as that line.
+pub fn write_item(role: &Role, line: &Line, out: &mut [u8; 256]) -> usize
+    ensures end { result ≤ 168 }
+    ensures text { take result out.new ≡ item_text line.now }
+    ensures again { (frames : ℕ) → IsLineOf frames role.now line.now → IsTriedBy line.now.retries line.now.item
+        → item_line role.now frames (take result out.new) ≡ Ok line.now }
+{
+    put_line(line, out)
 }
