@@ -1,3 +1,10 @@
+pub mod CutLaws
+pub mod DecimalLaws
 pub mod Digits
+pub mod EventAgain
+pub mod EventWords
+pub mod HexLaws
 pub mod Lines
+pub mod PieceLaws
 pub mod Runs
+pub mod TagLaws

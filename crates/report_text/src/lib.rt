@@ -2,13 +2,18 @@
 #![tactic(auto)]
 
 mod base16;
+mod deeds;
 mod digest;
 mod laws;
 mod line;
 mod order;
+mod outcomes;
+mod pieces;
+mod reading;
 mod report;
 
 pub use digest::write_digest;
 pub use laws::runs_are_longest;
 pub use line::write_line;
+pub use reading::read_line;
 pub use report::write_report;
