@@ -1,0 +1,3 @@
+pub mod GeneratedCommands
+pub mod GeneratedLaws
+pub mod GeneratedSound
