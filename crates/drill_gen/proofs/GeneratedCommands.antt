@@ -11,7 +11,7 @@ use Rattle.snp_model.specs.declared.command.Command.TheVariants.{MdInit, PageMov
 use Rattle.snp_model.specs.declared.item.Item.{Item}
 use Rattle.snp_model.specs.declared.item.Item.TheVariants as items
 use Rattle.snp_model.specs.Bounds.{IsGuestNumber}
-use Rattle.drill_gen.specs.Generated.{draw, command_of, firmware_item}
+use Rattle.snp_model.specs.Generated.{draw, command_of, firmware_item}
 
 -- a number drawn is below its count
 pub draw_below : (count : ℕ) (g : Lcg) → 0 < count → (draw count g).0 < count

@@ -9,7 +9,7 @@ use Rattle.snp_model.specs.declared.item.Line.{Line}
 use Rattle.snp_model.specs.declared.scenario.Actor.{Actor}
 use Rattle.snp_model.specs.declared.scenario.Role.{Role}
 use Rattle.snp_model.specs.declared.scenario.WordSpec.{WordSpec}
-use Rattle.drill_gen.specs.Generated.{actors_for, item_for, leaf_word, once, script_for, table_word, words_for}
+use Rattle.snp_model.specs.Generated.{actors_for, item_for, leaf_word, once, script_for, table_word, words_for}
 
 -- what is drawn, with an item before it
 abbrev with_item : Item → List Line × Lcg → List Line × Lcg

@@ -21,7 +21,7 @@ use Rattle.snp_model.specs.Reading.{order_of, turns_spell}
 use Rattle.snp_model.specs.Sound.{Pairwise, IsGuest, AsidsDiffer, IsPage, FramesDiffer, GpnsDiffer, IsWord, IsActor, IsSound}
 use Rattle.snp_model.proofs.PairLaws.{each_append, pair_append}
 use Rattle.drill_gen.proofs.GeneratedCommands.{draw_below, OfDrawn, firmware_item_is}
-use Rattle.drill_gen.specs.Generated.{generator_of, draw, word_address, mapping, cpu_item_of, cpu_item, host_item_of, host_item, firmware_item, item_for, script_for, actors_for, processor, roles, guest_spec, page_spec, table_word, leaf_word, pages_for, words_for, scenario_with, drawn_scenario, generated}
+use Rattle.snp_model.specs.Generated.{generator_of, draw, word_address, mapping, cpu_item_of, cpu_item, host_item_of, host_item, firmware_item, item_for, script_for, actors_for, processor, roles, guest_spec, page_spec, table_word, leaf_word, pages_for, words_for, scenario_with, drawn_scenario, generated}
 
 address_aligned : (page index : ℕ) → word_address page index % 8 ≡ 0
 address_aligned page index =

@@ -1,5 +1,5 @@
 ghost use Rattle.std.specs.Prelude.{◌≡◌, ◌<◌, IfOk};
-ghost use Rattle.drill_gen.specs.Generated.{draw, generator_of};
+ghost use Rattle.snp_model.specs.Generated.{draw, generator_of};
 
 use rand_core::utils::NextWord;
 use rand_pcg::Lcg64Xsh32;
@@ -22,7 +22,7 @@ impl Model for Drill {
 
 impl Drill {
     /// The drill of a number, before its first draw.
-    #[tactic(auto, unfolding(crate::specs::Generated::generator_of))]
+    #[tactic(auto, unfolding(snp_model::specs::Generated::generator_of))]
     pub fn from_number(number: u64) -> Drill
         ensures { result ≡ generator_of number }
     {
@@ -32,7 +32,7 @@ impl Drill {
     }
 
     /// Names one of so many, from 0 on: the next number drawn below the count.
-    #[tactic(auto, unfolding(crate::specs::Generated::draw))]
+    #[tactic(auto, unfolding(snp_model::specs::Generated::draw))]
     pub fn pick(&mut self, count: u32) -> u32
         requires { 0 < count }
         ensures drawn { (result, self.new) ≡ draw count self.old }

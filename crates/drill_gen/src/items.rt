@@ -1,6 +1,6 @@
 ghost use Rattle.std.specs.Prelude.{◌≡◌, ◌<◌, ◌≤◌};
 ghost use Rattle.snp_model.specs.declared.item.Item.TheVariants.{Access};
-ghost use Rattle.drill_gen.specs.Generated.{command_of, cpu_item, cpu_item_of, firmware_item, given, host_item, host_item_of, item_for, mapping, taken_away, word_address};
+ghost use Rattle.snp_model.specs.Generated.{command_of, cpu_item, cpu_item_of, firmware_item, given, host_item, host_item_of, item_for, mapping, taken_away, word_address};
 
 use crate::drill::Drill;
 use snp_model::{Command, Item, Op, PageSize, Role, Update};
@@ -53,7 +53,7 @@ fn taken_away(frame: u32) -> Update
 }
 
 // A command of the firmware, by its kind.
-#[tactic(auto, unfolding(crate::specs::Generated::command_of))]
+#[tactic(auto, unfolding(snp_model::specs::Generated::command_of))]
 fn command(
     kind: u32,
     guest: u8,
@@ -96,7 +96,7 @@ fn command(
 
 impl Drill {
     // An item of a guest's processor, by its kind, on a word of a page.
-    #[tactic(auto, unfolding(crate::specs::Generated::cpu_item_of))]
+    #[tactic(auto, unfolding(snp_model::specs::Generated::cpu_item_of))]
     fn cpu_item_of(&mut self, kind: u32, page: u32, index: u32) -> Item
         requires { (page < 512) × (index < 512) }
         ensures { (result, self.new) ≡ cpu_item_of kind page index self.old }
@@ -120,7 +120,7 @@ impl Drill {
     }
 
     // An item of a guest's processor.
-    #[tactic(auto, unfolding(crate::specs::Generated::cpu_item))]
+    #[tactic(auto, unfolding(snp_model::specs::Generated::cpu_item))]
     fn cpu_item(&mut self) -> Item
         ensures { (result, self.new) ≡ cpu_item self.old }
     {
@@ -131,7 +131,7 @@ impl Drill {
     }
 
     // An item of a hypervisor's processor, by its kind, for a guest, a frame of its and a place.
-    #[tactic(auto, unfolding(crate::specs::Generated::host_item_of))]
+    #[tactic(auto, unfolding(snp_model::specs::Generated::host_item_of))]
     fn host_item_of(&mut self, kind: u32, guest: u16, frame: u32, place: u32) -> Item
         requires { (guest ≤ 2) × (frame < 512) × (place < 512) }
         ensures { (result, self.new) ≡ host_item_of kind guest frame place self.old }
@@ -156,7 +156,7 @@ impl Drill {
     }
 
     // An item of a hypervisor's processor.
-    #[tactic(auto, unfolding(crate::specs::Generated::host_item))]
+    #[tactic(auto, unfolding(snp_model::specs::Generated::host_item))]
     fn host_item(&mut self) -> Item
         ensures { (result, self.new) ≡ host_item self.old }
     {
@@ -168,7 +168,7 @@ impl Drill {
     }
 
     // An item of the firmware. All is drawn whatever the kind.
-    #[tactic(auto, unfolding(crate::specs::Generated::firmware_item))]
+    #[tactic(auto, unfolding(snp_model::specs::Generated::firmware_item))]
     fn firmware_item(&mut self) -> Item
         ensures { (result, self.new) ≡ firmware_item self.old }
     {

@@ -1,13 +1,13 @@
 ghost use Rattle.std.specs.Prelude.{◌≡◌, ◌<◌, ◌≤◌, [], ◌∷◌, ◌++◌, map, IfOk, OnOk};
 ghost use Rattle.std.specs.List.{range_with_len};
-ghost use Rattle.drill_gen.specs.Generated.{guest_spec, leaf_word, page_spec, pages_for, processor, roles, table_word, words_for};
+ghost use Rattle.snp_model.specs.Generated.{guest_spec, leaf_word, page_spec, pages_for, processor, roles, table_word, words_for};
 
 use crate::items::mapping;
 use snp_model::{GuestSpec, Listed, PageSize, PageSpec, Paging, Role, WordSpec};
 use std::alloc::{AllocError, Global};
 
 // A guest that runs.
-#[tactic(auto, unfolding(crate::specs::Generated::guest_spec))]
+#[tactic(auto, unfolding(snp_model::specs::Generated::guest_spec))]
 fn guest_spec(guest: u8) -> GuestSpec
     requires { guest ≤ 2 }
     ensures { result ≡ guest_spec guest }
@@ -28,7 +28,7 @@ pub fn guests(alloc: Global) -> Result<Listed<GuestSpec>, AllocError>
 }
 
 // A page that a guest has from the start.
-#[tactic(auto, unfolding(crate::specs::Generated::page_spec))]
+#[tactic(auto, unfolding(snp_model::specs::Generated::page_spec))]
 fn page_spec(guest: u8, gpn: u32) -> PageSpec
     requires { (guest ≤ 2) × (gpn < 8) }
     ensures { result ≡ page_spec guest gpn }
@@ -44,7 +44,7 @@ fn page_spec(guest: u8, gpn: u32) -> PageSpec
 }
 
 // Adds the pages of a guest.
-#[tactic(auto, unfolding(crate::specs::Generated::pages_for))]
+#[tactic(auto, unfolding(snp_model::specs::Generated::pages_for))]
 fn add_pages(pages: &mut Listed<PageSpec>, guest: u8) -> Result<(), AllocError>
     requires { guest ≤ 2 }
     ensures { OnOk result (pages.new ≡ pages.old ++ pages_for guest) }
@@ -66,7 +66,7 @@ pub fn pages(alloc: Global) -> Result<Listed<PageSpec>, AllocError>
 }
 
 // The word of a table that leads to the next table.
-#[tactic(auto, unfolding(crate::specs::Generated::table_word))]
+#[tactic(auto, unfolding(snp_model::specs::Generated::table_word))]
 fn table_word(guest: u8, level: u32) -> WordSpec
     requires { (guest ≤ 2) × (level < 3) }
     ensures { result ≡ table_word guest level }
@@ -80,7 +80,7 @@ fn table_word(guest: u8, level: u32) -> WordSpec
 }
 
 // The word of the last table that maps a page.
-#[tactic(auto, unfolding(crate::specs::Generated::leaf_word))]
+#[tactic(auto, unfolding(snp_model::specs::Generated::leaf_word))]
 fn leaf_word(guest: u8, gpn: u32) -> WordSpec
     requires { (guest ≤ 2) × (gpn < 16) }
     ensures { result ≡ leaf_word guest gpn }
@@ -148,7 +148,7 @@ fn processor(guest: u8) -> Role
 }
 
 /// What the actors are.
-#[tactic(auto, unfolding(crate::specs::Generated::roles))]
+#[tactic(auto, unfolding(snp_model::specs::Generated::roles))]
 pub fn roles() -> [Role; 8]
     ensures { result ≡ roles }
 {

@@ -1,5 +1,5 @@
 ghost use Rattle.std.specs.Prelude.{◌≡◌, IfOk, OnErr};
-ghost use Rattle.drill_gen.specs.Generated.{actors_for, drawn_scenario, scenario_with, script_for};
+ghost use Rattle.snp_model.specs.Generated.{actors_for, drawn_scenario, scenario_with, script_for};
 
 use crate::drill::Drill;
 use crate::opening::{guests, pages, roles, words};
@@ -10,7 +10,7 @@ use std::alloc::{AllocError, Global};
 const ITEMS_EACH: u32 = 512;
 
 // A scenario with these actors.
-#[tactic(auto, unfolding(crate::specs::Generated::scenario_with))]
+#[tactic(auto, unfolding(snp_model::specs::Generated::scenario_with))]
 fn scenario_with(alloc: Global, actors: Listed<Actor>) -> Result<Scenario, AllocError>
     ensures { IfOk result (λ scenario. scenario ≡ scenario_with actors) }
 {
@@ -64,7 +64,7 @@ impl Drill {
     }
 
     // The scenario that is drawn.
-    #[tactic(auto, unfolding(crate::specs::Generated::drawn_scenario))]
+    #[tactic(auto, unfolding(snp_model::specs::Generated::drawn_scenario))]
     fn drawn_scenario(&mut self, alloc: Global) -> Result<Scenario, AllocError>
         ensures { IfOk result (λ scenario. (scenario, self.new) ≡ drawn_scenario self.old) }
     {

@@ -1,3 +1,4 @@
+pub mod MakesAgain
 pub mod PagesLaws
 pub mod StepLaws
 pub mod TextLaws

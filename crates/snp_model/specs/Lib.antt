@@ -5,6 +5,7 @@ pub mod Allowed
 pub mod Attempts
 pub mod Bounds
 pub mod CommandLine
+pub mod Drills
 pub mod Ending
 pub mod Entries
 pub mod EventText
@@ -16,6 +17,7 @@ pub mod FirmwareCommits
 pub mod FirmwareLocks
 pub mod FirmwareStep
 pub mod Gcm
+pub mod Generated
 pub mod GuestMemory
 pub mod GuestReads
 pub mod GuestWalk
@@ -57,6 +59,7 @@ pub mod RmpUpdate
 pub mod Room
 pub mod Run
 pub mod ScenarioLines
+pub mod ScenarioText
 pub mod Sealing
 pub mod Shapes
 pub mod Skips

@@ -1,6 +1,6 @@
 use Rattle.std.proofs.Common.{[], ◌∷◌, ◌++◌, ap, ◌∙◌}
 use Rattle.snp_model.specs.declared.scenario.WordSpec.{WordSpec}
-use Rattle.drill_gen.specs.Generated.{leaf_word}
+use Rattle.snp_model.specs.Generated.{leaf_word}
 use Rattle.drill_gen.proofs.GeneratedLaws.{more_from}
 use Rattle.drill_gen.proofs.opening.add_leaf_words.Goals as goal
 

@@ -1,6 +1,6 @@
 use Rattle.std.proofs.Common.{[], ◌∷◌, ◌++◌, ap, ◌∙◌}
 use Rattle.snp_model.specs.declared.scenario.PageSpec.{PageSpec}
-use Rattle.drill_gen.specs.Generated.{page_spec}
+use Rattle.snp_model.specs.Generated.{page_spec}
 use Rattle.drill_gen.proofs.GeneratedLaws.{more_from}
 use Rattle.drill_gen.proofs.opening.add_pages.Goals as goal
 

@@ -1,7 +1,7 @@
 -- the pages so far
 use Rattle.std.proofs.Common.{◌≡◌, ◌++◌, map}
 use Rattle.std.specs.List.{range_with_len}
-use Rattle.drill_gen.specs.Generated.{page_spec}
+use Rattle.snp_model.specs.Generated.{page_spec}
 use Rattle.drill_gen.proofs.opening.add_pages.Given as goal
 
 abbrev pub invariant-pages : goal.invariant-pages

@@ -1,7 +1,7 @@
 use Rattle.std.proofs.Common.{◌+◌, List, ◌++◌, drop, ap, ◌∙◌}
 use Rattle.std.proofs.lemmas.List.{drop_more, drop_all}
 use Rattle.snp_model.specs.declared.scenario.Actor.{Actor}
-use Rattle.drill_gen.specs.Generated.{actors_for}
+use Rattle.snp_model.specs.Generated.{actors_for}
 use Rattle.drill_gen.proofs.GeneratedLaws.{actors_done, actors_left, actors_more}
 use Rattle.drill_gen.proofs.drill.Drill.actors_for.Goals as goal
 

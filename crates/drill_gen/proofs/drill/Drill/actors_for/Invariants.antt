@@ -1,6 +1,6 @@
 -- the actors so far, and those that are left
 use Rattle.std.proofs.Common.{◌≡◌, ◌++◌, drop}
-use Rattle.drill_gen.specs.Generated.{actors_for}
+use Rattle.snp_model.specs.Generated.{actors_for}
 use Rattle.drill_gen.proofs.drill.Drill.actors_for.Given as goal
 
 abbrev pub invariant-roles : goal.invariant-roles

@@ -1,6 +1,6 @@
 use Rattle.std.proofs.Common.{◌+◌, ◌-◌, List, ◌++◌, ap, ◌∙◌}
 use Rattle.snp_model.specs.declared.item.Line.{Line}
-use Rattle.drill_gen.specs.Generated.{script_for}
+use Rattle.snp_model.specs.Generated.{script_for}
 use Rattle.drill_gen.proofs.GeneratedLaws.{script_done, script_left, script_more}
 use Rattle.drill_gen.proofs.drill.Drill.script_for.Goals as goal
 

@@ -1,6 +1,6 @@
 -- the items so far, and those that are left
 use Rattle.std.proofs.Common.{◌≡◌, ◌++◌, ◌-◌}
-use Rattle.drill_gen.specs.Generated.{script_for}
+use Rattle.snp_model.specs.Generated.{script_for}
 use Rattle.drill_gen.proofs.drill.Drill.script_for.Given as goal
 
 abbrev pub invariant-items : goal.invariant-items
