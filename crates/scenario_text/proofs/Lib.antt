@@ -1,4 +1,8 @@
+pub mod EarlierLaws
+pub mod GuestsAgain
+pub mod KeyAgain
 pub mod MakesAgain
+pub mod PagesAgain
 pub mod PagesLaws
 pub mod StepLaws
 pub mod TextLaws
