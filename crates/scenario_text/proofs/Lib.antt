@@ -1,5 +1,9 @@
+pub mod EarlierLaws
+pub mod GuestsAgain
+pub mod KeyAgain
 pub mod MakesAgain
 pub mod OrdersAgain
+pub mod PagesAgain
 pub mod PagesLaws
 pub mod ScenarioAgain
 pub mod StepLaws
