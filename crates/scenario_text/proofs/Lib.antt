@@ -1,7 +1,10 @@
+pub mod ActorsAgain
 pub mod EarlierLaws
 pub mod GuestsAgain
+pub mod ItemsAgain
 pub mod KeyAgain
 pub mod MakesAgain
+pub mod NamedLines
 pub mod OrdersAgain
 pub mod PagesAgain
 pub mod PagesLaws
@@ -9,3 +12,4 @@ pub mod ScenarioAgain
 pub mod StepLaws
 pub mod TextAgain
 pub mod TextLaws
+pub mod WordsAgain
