@@ -1,34 +1,22 @@
 -- What is written of a scenario is read again as that scenario.
-use Rattle.std.proofs.Common.{◌≡◌, ◌≢◌, ℕ, zero, suc, ◌+◌, ◌^◌, ◌<◌, ◌≤◌, true, List, [], ◌∷◌, ◌++◌, length, refl, arith}
+use Rattle.std.proofs.Common.{◌≡◌, ◌≢◌, ℕ, zero, suc, ◌<◌, ◌≤◌, true, [], ◌∷◌, length, refl, arith}
 use Rattle.std.specs.Prelude.{codes, not, ◌==◌}
-use Rattle.std.specs.List.{AllByRecursion}
 use Rattle.std.proofs.lemmas.Bool.Decides.{nat_tests}
-use Rattle.snp_model.specs.declared.scenario.Actor.{Actor}
-use Rattle.snp_model.specs.declared.scenario.GuestSpec.{GuestSpec}
-use Rattle.snp_model.specs.declared.scenario.PageSpec.{PageSpec}
 use Rattle.snp_model.specs.declared.scenario.Scenario.{Scenario}
-use Rattle.snp_model.specs.declared.scenario.WordSpec.{WordSpec}
 use Rattle.snp_model.specs.Attempts.{attempts_of}
 use Rattle.snp_model.specs.Reading.{nothing, reading, closed, Makes, Reads, most_bytes, order_of}
-use Rattle.snp_model.specs.ScenarioLines.{frames_of, before_pages, before_words, before_actors, before_orders, first_scenario}
+use Rattle.snp_model.specs.ScenarioLines.{first_scenario}
 use Rattle.snp_model.specs.ScenarioText.{guest_lines, page_lines, word_lines, actor_lines, order_lines, head_lines, scenario_lines, scenario_text}
-use Rattle.snp_model.specs.Sound.{Pairwise, IsGuest, AsidsDiffer, IsPage, FramesDiffer, GpnsDiffer, IsWord, IsActor, IsSound}
+use Rattle.snp_model.specs.Sound.{IsSound}
 use Rattle.snp_model.proofs.AttemptLaws.{length-turns_spell}
-use Rattle.scenario_text.specs.Spelled.{HasWholeKey, IsOfOpened, IsSpelledActor, IsSpelled}
+use Rattle.scenario_text.specs.Spelled.{IsSpelled}
+use Rattle.scenario_text.proofs.ActorsAgain.{actors_make}
+use Rattle.scenario_text.proofs.GuestsAgain.{guests_make}
 use Rattle.scenario_text.proofs.MakesAgain.{makes_append}
 use Rattle.scenario_text.proofs.OrdersAgain.{end_makes, head_makes, orders_make}
+use Rattle.scenario_text.proofs.PagesAgain.{pages_make}
 use Rattle.scenario_text.proofs.TextAgain.{plain_lines, scenario_read, text_is}
-
--- what the lines of guests, pages, words and actors make
-pub record Entries : Type 0 where
-  pub guests : (c : Scenario) (guests : List GuestSpec) → before_pages c ≡ true → length c.guests + length guests ≤ 8 → AllByRecursion IsGuest guests → AllByRecursion HasWholeKey guests → Pairwise AsidsDiffer (c.guests ++ guests)
-      → Makes (reading c) (guest_lines (length c.guests + 1) guests) (reading (record c { guests = c.guests ++ guests }))
-  pub pages : (c : Scenario) (pages : List PageSpec) → before_words c ≡ true → frames_of c ≤ 2 ^ 32 → AllByRecursion (IsPage (frames_of c) (length c.guests)) pages → AllByRecursion (IsOfOpened c.guests) pages → Pairwise FramesDiffer (c.pages ++ pages) → Pairwise GpnsDiffer (c.pages ++ pages)
-      → Makes (reading c) (page_lines pages) (reading (record c { pages = c.pages ++ pages }))
-  pub words : (c : Scenario) (words : List WordSpec) → before_actors c ≡ true → frames_of c ≤ 2 ^ 32 → AllByRecursion (IsWord (frames_of c)) words
-      → Makes (reading c) (word_lines words) (reading (record c { words = c.words ++ words }))
-  pub actors : (c : Scenario) (actors : List Actor) → before_orders c ≡ true → frames_of c ≤ 2 ^ 32 → length c.guests ≤ 8 → length c.actors + length actors ≤ 32 → AllByRecursion (IsActor (frames_of c) (length c.guests)) actors → AllByRecursion (IsSpelledActor c.version) actors → attempts_of (record c { actors = c.actors ++ actors }) ≤ 8192
-      → Makes (reading c) (actor_lines (length c.actors + 1) actors) (reading (record c { actors = c.actors ++ actors }))
+use Rattle.scenario_text.proofs.WordsAgain.{words_make}
 
 -- the scenario as far as its lines are read: its first two, and those of its guests, pages, words and actors
 abbrev with_memory : Scenario → Scenario
@@ -54,25 +42,25 @@ memory_is : (n : ℕ) → 0 < n → not (n == 0) ≡ true
 memory_is zero some = absurd (omega (arith, some))
 memory_is (suc n) some = grind (arith, nat_tests)
 
-guests_next : Entries → (c : Scenario) → IsSound c → IsSpelled c → Makes (reading (with_memory c)) (guest_lines 1 c.guests) (reading (with_guests c))
-guests_next entries c sound spelled =
-    entries.guests (with_memory c) c.guests (rw (memory_is c.regions sound.regions_some) refl) (let few = sound.guests_most in omega (arith, few)) sound.guests spelled.keys sound.asids_differ
+guests_next : (c : Scenario) → IsSound c → IsSpelled c → Makes (reading (with_memory c)) (guest_lines 1 c.guests) (reading (with_guests c))
+guests_next c sound spelled =
+    guests_make (with_memory c) c.guests (rw (memory_is c.regions sound.regions_some) refl) (let few = sound.guests_most in omega (arith, few)) sound.guests spelled.keys sound.asids_differ
 
-pages_next : Entries → (c : Scenario) → IsSound c → IsSpelled c → Makes (reading (with_guests c)) (page_lines c.pages) (reading (with_pages c))
-pages_next entries c sound spelled =
+pages_next : (c : Scenario) → IsSound c → IsSpelled c → Makes (reading (with_guests c)) (page_lines c.pages) (reading (with_pages c))
+pages_next c sound spelled =
     let few = sound.regions_most in
-    entries.pages (with_guests c) c.pages (rw (memory_is c.regions sound.regions_some) refl) (omega (arith, few)) sound.pages spelled.opened sound.frames_differ sound.gpns_differ
+    pages_make (with_guests c) c.pages (rw (memory_is c.regions sound.regions_some) refl) (omega (arith, few)) sound.guests_most sound.pages spelled.opened sound.frames_differ sound.gpns_differ
 
-words_next : Entries → (c : Scenario) → IsSound c → Makes (reading (with_pages c)) (word_lines c.words) (reading (with_words c))
-words_next entries c sound =
+words_next : (c : Scenario) → IsSound c → Makes (reading (with_pages c)) (word_lines c.words) (reading (with_words c))
+words_next c sound =
     let few = sound.regions_most in
-    entries.words (with_pages c) c.words (rw (memory_is c.regions sound.regions_some) refl) (omega (arith, few)) sound.words
+    words_make (with_pages c) c.words (rw (memory_is c.regions sound.regions_some) refl) (omega (arith, few)) sound.words
 
-actors_next : Entries → (c : Scenario) → IsSound c → IsSpelled c → Makes (reading (with_words c)) (actor_lines 1 c.actors) (reading (with_actors c))
+actors_next : (c : Scenario) → IsSound c → IsSpelled c → Makes (reading (with_words c)) (actor_lines 1 c.actors) (reading (with_actors c))
 unfolding attempts_of
-actors_next entries c sound spelled =
+actors_next c sound spelled =
     let few = sound.regions_most in
-    entries.actors (with_words c) c.actors (rw (memory_is c.regions sound.regions_some) refl) (omega (arith, few)) sound.guests_most (let some = sound.actors_most in omega (arith, some)) sound.actors spelled.actors sound.attempts_most
+    actors_make (with_words c) c.actors (rw (memory_is c.regions sound.regions_some) refl) (omega (arith, few)) sound.guests_most (let some = sound.actors_most in omega (arith, some)) sound.actors spelled.actors sound.attempts_most
 
 orders_next : (c : Scenario) → IsSound c → Makes (reading (with_actors c)) (order_lines c.order) (reading c)
 unfolding order_of
@@ -82,20 +70,20 @@ orders_next c sound =
     orders_make (with_actors c) c.order (some_memory c.regions sound.regions_some) refl sound.order (omega (arith, few, many))
 
 -- the lines of a scenario make it
-pub spelled_makes : Entries → (c : Scenario) → IsSound c → IsSpelled c → Makes nothing (scenario_lines c) (closed c)
+pub spelled_makes : (c : Scenario) → IsSound c → IsSpelled c → Makes nothing (scenario_lines c) (closed c)
 unfolding scenario_lines
-spelled_makes entries c sound spelled =
+spelled_makes c sound spelled =
     let orders = makes_append (reading (with_actors c)) (reading c) (closed c) (order_lines c.order) (codes "end" ∷ []) (orders_next c sound) (end_makes c (some_memory c.regions sound.regions_some)) in
-    let actors = makes_append (reading (with_words c)) (reading (with_actors c)) (closed c) (actor_lines 1 c.actors) _ (actors_next entries c sound spelled) orders in
-    let words = makes_append (reading (with_pages c)) (reading (with_words c)) (closed c) (word_lines c.words) _ (words_next entries c sound) actors in
-    let pages = makes_append (reading (with_guests c)) (reading (with_pages c)) (closed c) (page_lines c.pages) _ (pages_next entries c sound spelled) words in
-    let guests = makes_append (reading (with_memory c)) (reading (with_guests c)) (closed c) (guest_lines 1 c.guests) _ (guests_next entries c sound spelled) pages in
+    let actors = makes_append (reading (with_words c)) (reading (with_actors c)) (closed c) (actor_lines 1 c.actors) _ (actors_next c sound spelled) orders in
+    let words = makes_append (reading (with_pages c)) (reading (with_words c)) (closed c) (word_lines c.words) _ (words_next c sound) actors in
+    let pages = makes_append (reading (with_guests c)) (reading (with_pages c)) (closed c) (page_lines c.pages) _ (pages_next c sound spelled) words in
+    let guests = makes_append (reading (with_memory c)) (reading (with_guests c)) (closed c) (guest_lines 1 c.guests) _ (guests_next c sound spelled) pages in
     makes_append nothing (reading (with_memory c)) (closed c) (head_lines c.version c.regions) _
     (head_makes c.version c.regions sound.version_some sound.version_most sound.regions_some sound.regions_most) guests
 
 -- its text says it
-pub spelled_reads : Entries → (c : Scenario) → IsSound c → IsSpelled c → length (scenario_text c) ≤ most_bytes → Reads (scenario_text c) c
+pub spelled_reads : (c : Scenario) → IsSound c → IsSpelled c → length (scenario_text c) ≤ most_bytes → Reads (scenario_text c) c
 unfolding scenario_text
-spelled_reads entries c sound spelled short =
-    let makes = spelled_makes entries c sound spelled in
+spelled_reads c sound spelled short =
+    let makes = spelled_makes c sound spelled in
     record { lines = scenario_lines c; whole = text_is (scenario_lines c) (plain_lines nothing (scenario_lines c) (closed c) (scenario_read c) makes) short; makes = makes }
