@@ -21,7 +21,7 @@ use Rattle.snp_model.proofs.AttemptLaws.{turns_append}
 use Rattle.script_text.proofs.ItemAgain.{ranged_decimal}
 use Rattle.script_text.proofs.SpellingLaws.{IsWord, is_graphic, decimal_again, decimal_word, digits_only, line_plain, words_again}
 use Rattle.scenario_text.proofs.MakesAgain.{more_make, one_makes, said_fits}
-use Rattle.scenario_text.proofs.TextAgain.{read_line}
+use Rattle.scenario_text.proofs.NamedLines.{named}
 
 -- none of these bytes is the star
 abbrev HasNoStar : List ℕ → Type 0
@@ -119,7 +119,7 @@ unfolding turn_words
 order_fits c turn turns short some are few =
     let many = length-turn_words turns in
     let fits : nat_le (length (codes "order" ∷ turn_words (turn ∷ turns))) 17 ≡ true = grind (arith, nat_tests, many, short) in
-    said_fits c (codes "order") (turn_words (turn ∷ turns)) (reading (record c { order = c.order ++ turn ∷ turns })) refl (turns_words (turn ∷ turns) are) fits (read_line (joined (codes "order" ∷ turn_words (turn ∷ turns))) refl)
+    said_fits c (codes "order") (turn_words (turn ∷ turns)) (reading (record c { order = c.order ++ turn ∷ turns })) refl (turns_words (turn ∷ turns) are) fits (named (joined (codes "order" ∷ turn_words (turn ∷ turns))) refl)
     (order_form c (decimal turn.actor ++ 42 ∷ decimal turn.count) (turn_words turns) some ∙ order_added c (turn ∷ turns) are few)
 
 all_take : {X : Type 0} (P : X → Type 0) (k : ℕ) (xs : List X) → AllByRecursion P xs → AllByRecursion P (take k xs)
@@ -184,7 +184,7 @@ version_again (suc (suc (suc n))) some few = absurd (omega arith)
 
 version_fits : (version : ℕ) → 1 ≤ version → version ≤ 2 → fit nothing (joined (codes "snp" ∷ decimal version ∷ [])) ≡ Ok (reading (first_scenario version))
 version_fits version some few =
-    said_first (codes "snp") (decimal version ∷ []) (reading (first_scenario version)) refl (decimal_word version (omega (arith, few)), tt) refl (read_line (joined (codes "snp" ∷ decimal version ∷ [])) refl)
+    said_first (codes "snp") (decimal version ∷ []) (reading (first_scenario version)) refl (decimal_word version (omega (arith, few)), tt) refl (named (joined (codes "snp" ∷ decimal version ∷ [])) refl)
     (rw (version_again version some few) refl)
 
 -- the second line
@@ -193,7 +193,7 @@ regions_fits : (version regions : ℕ) → 0 < regions → regions ≤ most Regi
 unfolding add_words add_regions regions_row
 regions_fits version regions some few =
     let within : nat_le regions (most Regions) ≡ true = grind (arith, nat_tests, few) in
-    said_fits (first_scenario version) (codes "regions") (decimal regions ∷ []) (reading (record (first_scenario version) { regions = regions })) refl (decimal_word regions (omega (arith, few)), tt) refl (read_line (joined (codes "regions" ∷ decimal regions ∷ [])) refl)
+    said_fits (first_scenario version) (codes "regions") (decimal regions ∷ []) (reading (record (first_scenario version) { regions = regions })) refl (decimal_word regions (omega (arith, few)), tt) refl (named (joined (codes "regions" ∷ decimal regions ∷ [])) refl)
     (rw (ranged_decimal 1 (2 ^ 64 - 1) regions (omega (arith, some)) (omega (arith, few)) (omega (arith, few)), within) refl)
 
 -- the first two lines

@@ -28,6 +28,7 @@ use Rattle.snp_model.specs.Reading.{Made, nothing, reading, closed, Makes, IsTex
 use Rattle.snp_model.specs.ScenarioText.{text_of, guest_line, guest_lines, page_line, page_lines, word_line, word_lines, actor_line, actor_lines, item_lines, order_lines, order_lines_of, head_lines, scenario_lines}
 use Rattle.snp_model.specs.Spelling.{joined, access_words, update_words, command_words, skip_words, item_said, item_text, retry_words, behind}
 use Rattle.snp_model.proofs.LineLaws.{select}
+use Rattle.scenario_text.proofs.NamedLines.{is_unnamed, named}
 
 -- a line without a line feed; 10 is the line feed
 abbrev pub HasNoFeed : List ℕ → Type 0
@@ -51,21 +52,16 @@ no_feed (b ∷ line) all =
     let others : list_all is_printable line ≡ true = grind (arith, nat_tests, all) in
     All-cons (λ c. (c == 10) ≡ false) b line first (no_feed line others)
 
--- a line that isn't passed over: it isn't empty, and doesn't begin as a comment does; 35 is `#`
+-- a line that isn't passed over
 abbrev pub IsRead : List ℕ → Type 0
-IsRead [] = ⊥
-IsRead (b ∷ line) = (b == 35) ≡ false
-
-pub read_line : (line : List ℕ) → IsRead line → is_passed_over line ≡ false
-read_line [] read = absurd read
-read_line (b ∷ line) read = grind (arith, nat_tests, read)
+IsRead line = is_unnamed line ≡ false
 
 -- a line that is read is plain
 plain_line : (made : Made) (line : List ℕ) (next : Made) → IsRead line → fit_line made line ≡ Ok next → HasNoFeed line
 unfolding fit_line
 plain_line made line next read fits =
     select (is_passed_over line) (Ok made) (cond (is_plain line) (fit_words made (words_of line)) (Err _)) next (HasNoFeed line)
-    (λ over is. let passed = read_line line read in absurd (cc))
+    (λ over is. let here = named line read in absurd (cc))
     (λ here is. select (is_plain line) (fit_words made (words_of line)) (Err _) next (HasNoFeed line)
     (λ plain h. no_feed line (and_parts (list_all is_printable line) _ plain).0)
     (λ other h. absurd (cc)) is)
