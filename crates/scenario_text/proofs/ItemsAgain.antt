@@ -34,12 +34,12 @@ use Rattle.scenario_text.proofs.MakesAgain.{more_make}
 use Rattle.scenario_text.proofs.NamedLines.{is_unnamed, named}
 
 -- whether a word is the first of a line that is none of an item
-abbrev begins_entry : List ℕ → Bool
+abbrev pub begins_entry : List ℕ → Bool
 begins_entry w =
     bytes_eq w (codes "regions") || (bytes_eq w (codes "guest") || (bytes_eq w (codes "page") || (bytes_eq w (codes "word") || (bytes_eq w (codes "actor") || (bytes_eq w (codes "order") || bytes_eq w (codes "end"))))))
 
 -- a line that is no comment, and begins as none of the entries does
-abbrev IsItemText : List ℕ → Type 0
+abbrev pub IsItemText : List ℕ → Type 0
 IsItemText bytes = (is_unnamed bytes ≡ false) × (begins_entry (word (words_of bytes) 0) ≡ false)
 
 access_begins : (address : ℕ) (op : Op) (more : List ℕ) → IsItemText (joined (access_words address op) ++ more)
@@ -83,7 +83,7 @@ item_begins (items.Psmash frame) more = (refl, refl)
 item_begins (items.Firmware command) more = command_begins command more
 item_begins (items.Skip count test) more = skip_begins count test more
 
-line_begins : (line : Line) → IsItemText (item_text line)
+pub line_begins : (line : Line) → IsItemText (item_text line)
 unfolding item_text
 line_begins line = item_begins line.item (behind (retry_words line.retries))
 

@@ -6,15 +6,7 @@ use Rattle.std.proofs.lemmas.Bool.{and_parts}
 use Rattle.std.proofs.lemmas.Bool.Decides.{nat_tests}
 use Rattle.std.proofs.lemmas.List.Elements.{All-nil, All-cons}
 use Rattle.std.proofs.lemmas.List.Splits.{slice_split_at}
-use Rattle.snp_model.specs.declared.command.Command.{Command}
-use Rattle.snp_model.specs.declared.command.Command.TheVariants as commands
-use Rattle.snp_model.specs.declared.item.Item.{Item}
-use Rattle.snp_model.specs.declared.item.Item.TheVariants as items
 use Rattle.snp_model.specs.declared.item.Line.{Line}
-use Rattle.snp_model.specs.declared.item.Op.{Op}
-use Rattle.snp_model.specs.declared.item.Op.TheVariants.{Load, Store, Swap, Compare, Xor}
-use Rattle.snp_model.specs.declared.item.SkipTest.{SkipTest}
-use Rattle.snp_model.specs.declared.item.SkipTest.TheVariants.{Good, Bad, Value}
 use Rattle.snp_model.specs.declared.scenario.Actor.{Actor}
 use Rattle.snp_model.specs.declared.scenario.GuestSpec.{GuestSpec}
 use Rattle.snp_model.specs.declared.scenario.PageSpec.{PageSpec}
@@ -26,8 +18,8 @@ use Rattle.snp_model.specs.declared.scenario.WordSpec.{WordSpec}
 use Rattle.snp_model.specs.Lines.{parts_at, words_of, is_plain, is_printable}
 use Rattle.snp_model.specs.Reading.{Made, nothing, reading, closed, Makes, IsText, fit, fit_line, fit_words, is_passed_over, most_bytes}
 use Rattle.snp_model.specs.ScenarioText.{text_of, guest_line, guest_lines, page_line, page_lines, word_line, word_lines, actor_line, actor_lines, item_lines, order_lines, order_lines_of, head_lines, scenario_lines}
-use Rattle.snp_model.specs.Spelling.{joined, access_words, update_words, command_words, skip_words, item_said, item_text, retry_words, behind}
 use Rattle.snp_model.proofs.LineLaws.{select}
+use Rattle.scenario_text.proofs.ItemsAgain.{line_begins}
 use Rattle.scenario_text.proofs.NamedLines.{is_unnamed, named}
 
 -- a line without a line feed; 10 is the line feed
@@ -80,51 +72,6 @@ plain_lines made [] next read makes = tt
 plain_lines made (line ∷ lines) next read makes = (plain_fit made line makes.0 read.0 makes.1, plain_lines makes.0 lines next read.1 makes.2)
 
 -- no line of a scenario is passed over: each begins with a letter
-access_read : (address : ℕ) (op : Op) (more : List ℕ) → IsRead (joined (access_words address op) ++ more)
-unfolding access_words
-access_read address Load more = refl
-access_read address (Store value) more = refl
-access_read address (Swap value) more = refl
-access_read address (Compare expected next) more = refl
-access_read address (Xor value) more = refl
-
-command_read : (command : Command) (more : List ℕ) → IsRead (joined (command_words command) ++ more)
-unfolding command_words
-command_read (commands.GctxCreate guest frame) more = refl
-command_read (commands.Activate guest asid) more = refl
-command_read (commands.LaunchStart guest) more = refl
-command_read (commands.LaunchUpdate guest frame page_type imi perms) more = refl
-command_read (commands.LaunchFinish guest) more = refl
-command_read (commands.MdInit frame) more = refl
-command_read (commands.PageMove guest source target) more = refl
-command_read (commands.SwapOut guest source target metadata entry) more = refl
-command_read (commands.SwapIn guest source target metadata entry) more = refl
-command_read (commands.Reclaim frame) more = refl
-command_read (commands.MdOut guest source target metadata entry) more = refl
-command_read (commands.MdIn guest source target metadata entry) more = refl
-command_read (commands.MdRootOut guest source target) more = refl
-command_read (commands.MdRootIn guest source target) more = refl
-
-skip_read : (count : ℕ) (test : SkipTest) (more : List ℕ) → IsRead (joined (skip_words count test) ++ more)
-unfolding skip_words
-skip_read count Good more = refl
-skip_read count Bad more = refl
-skip_read count (Value value) more = refl
-
-said_read : (item : Item) (more : List ℕ) → IsRead (joined (item_said item) ++ more)
-unfolding item_said update_words
-said_read (items.Access address op) more = access_read address op more
-said_read (items.Pvalidate address size validate) more = refl
-said_read (items.Rmpadjust address size target mask vmsa) more = refl
-said_read (items.Rmpupdate update) more = refl
-said_read (items.Psmash frame) more = refl
-said_read (items.Firmware command) more = command_read command more
-said_read (items.Skip count test) more = skip_read count test more
-
-item_read : (line : Line) → IsRead (item_text line)
-unfolding item_text
-item_read line = said_read line.item (behind (retry_words line.retries))
-
 role_read : (number : ℕ) (role : Role) → IsRead (actor_line number role)
 unfolding actor_line
 role_read number (Cpu guest vmpl npt paging) = refl
@@ -149,7 +96,7 @@ words_read (word ∷ words) = (refl, words_read words)
 items_read : (lines : List Line) → AllByRecursion IsRead (item_lines lines)
 unfolding item_lines
 items_read [] = tt
-items_read (line ∷ lines) = (item_read line, items_read lines)
+items_read (line ∷ lines) = ((line_begins line).0, items_read lines)
 
 orders_read : (room : ℕ) (turns : List Turn) → AllByRecursion IsRead (order_lines_of room turns)
 unfolding order_lines_of
