@@ -11,6 +11,8 @@ mod outcomes;
 mod pieces;
 mod reading;
 mod report;
+#[cfg(test)]
+mod tests;
 
 pub use digest::write_digest;
 pub use laws::runs_are_longest;

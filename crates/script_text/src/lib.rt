@@ -7,6 +7,8 @@ pub mod item;
 pub mod number;
 pub mod pen;
 pub mod sealing;
+#[cfg(test)]
+mod tests;
 pub mod words;
 pub mod writing;
 
