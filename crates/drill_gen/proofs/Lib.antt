@@ -1,3 +1,4 @@
+pub mod DrawnSpelled
 pub mod GeneratedCommands
 pub mod GeneratedLaws
 pub mod GeneratedSound
