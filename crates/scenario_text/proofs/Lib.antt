@@ -1,6 +1,8 @@
 pub mod ActorsAgain
 pub mod EarlierLaws
+pub mod GivesLaws
 pub mod GuestsAgain
+pub mod ItemSpelled
 pub mod ItemsAgain
 pub mod KeyAgain
 pub mod MakesAgain
@@ -12,4 +14,6 @@ pub mod ScenarioAgain
 pub mod StepLaws
 pub mod TextAgain
 pub mod TextLaws
+pub mod ValidAgain
+pub mod ValidSpelled
 pub mod WordsAgain
