@@ -5,6 +5,7 @@ pub mod batch;
 mod errors;
 pub mod fault;
 pub mod fleet;
+pub mod hashing;
 pub mod input;
 pub mod locked_fleet;
 mod measuring;
