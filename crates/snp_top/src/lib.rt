@@ -5,6 +5,9 @@ pub mod batch;
 mod errors;
 pub mod fault;
 pub mod fleet;
+pub mod hashing;
+#[cfg(test)]
+mod hashing_tests;
 pub mod input;
 pub mod locked_fleet;
 mod measuring;
