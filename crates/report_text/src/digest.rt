@@ -2,8 +2,8 @@ ghost use Rattle.std.specs.Prelude.{◌≡◌, ◌≤◌, length, take, OnErr};
 ghost use Rattle.snp_model.specs.MeasureText.{digest_line};
 ghost use Rattle.snp_model.specs.Outside.{Rose, Writes};
 
-use crate::base16::put_bytes;
 use outside_port::{Sink, SinkFault, write_all};
+use script_text::base16::put_bytes;
 use script_text::pen::put;
 
 /// Writes the line that tells a launch digest, by one call of the sink where that takes whole pieces.
