@@ -3,8 +3,8 @@ ghost use Rattle.snp_model.specs.MeasureText.{digest_line};
 ghost use Rattle.snp_model.specs.Outside.{Rose, Writes};
 ghost use Rattle.outside_port.specs.Holding.{Held};
 
-use crate::base16::put_bytes;
 use outside_port::{Sink, SinkFault, write_all};
+use script_text::base16::put_bytes;
 use script_text::pen::put;
 
 /// Writes the line that tells a launch digest, by one call of the sink where that takes whole pieces.

@@ -1,7 +1,6 @@
 //! The text of a report, and the line that tells a launch digest.
 #![tactic(auto)]
 
-mod base16;
 mod deeds;
 mod digest;
 mod laws;

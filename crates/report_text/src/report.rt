@@ -5,11 +5,11 @@ ghost use Rattle.snp_model.specs.Outside.{Rose, Writes};
 ghost use Rattle.snp_model.specs.Report.{digest_text, end_text, event_lines, guest_lines, guest_text, head_text, line, order_lines, report_text, runs_of, state_text};
 ghost use Rattle.outside_port.specs.Holding.{Held};
 
-use crate::base16::put_bytes;
 use crate::line::put_line;
 use crate::order::put_order;
 use outside_port::{Sink, SinkFault, write_all};
 use run_journal::Journal;
+use script_text::base16::put_bytes;
 use script_text::pen::{put, put_named};
 use snp_model::{Event, GuestLine, GuestState};
 

@@ -17,3 +17,4 @@ pub mod TextLaws
 pub mod ValidAgain
 pub mod ValidSpelled
 pub mod WordsAgain
+pub mod WrittenLines

@@ -1,6 +1,7 @@
 //! The words and numbers of lines, and the lines of items.
 #![tactic(auto)]
 
+pub mod base16;
 pub mod commands;
 pub mod instructions;
 pub mod item;

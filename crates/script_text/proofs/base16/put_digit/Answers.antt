@@ -1,7 +1,7 @@
 use Rattle.std.proofs.Common.{◌≡◌, ◌%◌, arith, false}
 use Rattle.std.proofs.lemmas.Fmt.{hex_one_digit}
-use Rattle.report_text.proofs.Digits.{PAIRS_at}
-use Rattle.report_text.proofs.base16.put_digit.Goals as goal
+use Rattle.script_text.proofs.HexDigits.{PAIRS_at}
+use Rattle.script_text.proofs.base16.put_digit.Goals as goal
 
 pub returns-clause-text : goal.returns-clause-text
 returns-clause-text c =

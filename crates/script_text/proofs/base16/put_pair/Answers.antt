@@ -1,5 +1,5 @@
-use Rattle.report_text.proofs.Digits.{PAIRS_at}
-use Rattle.report_text.proofs.base16.put_pair.Goals as goal
+use Rattle.script_text.proofs.HexDigits.{PAIRS_at}
+use Rattle.script_text.proofs.base16.put_pair.Goals as goal
 
 pub returns-clause-text : goal.returns-clause-text
 returns-clause-text c =

@@ -2,7 +2,7 @@ ghost use Rattle.std.specs.Prelude.{◌≡◌, ◌+◌, ◌*◌, ◌/◌, ◌%�
 ghost use Rattle.std.specs.Fmt.{digits, digit_glyph};
 ghost use Rattle.snp_model.specs.EventText.{hex, hex_bytes};
 
-use script_text::pen::put;
+use crate::pen::put;
 
 // The two digits of each byte.
 static PAIRS: [u8; 512] =
@@ -113,7 +113,7 @@ fn put_more(out: &mut [u8], at: usize, value: usize) -> usize
     put_pair(out, at, rest % 256)
 }
 
-// Writes a number in base 16, after 0x.
+/// Writes a number in base 16, after 0x, and gives the place after it.
 #[inline(always)]
 #[tactic(auto, unfolding(snp_model::specs::EventText::hex))]
 pub fn put_hex(out: &mut [u8], at: usize, value: u64) -> usize
@@ -128,7 +128,7 @@ pub fn put_hex(out: &mut [u8], at: usize, value: u64) -> usize
     put_more(out, at, value as usize)
 }
 
-// Writes two digits for each byte.
+/// Writes two digits in base 16 for each byte, and gives the place after them.
 pub fn put_bytes(out: &mut [u8], at: usize, bytes: &[u8]) -> usize
     requires { at + 2 * length bytes.now ≤ length out.old }
     ensures end { result ≡ at + 2 * length bytes.now }

@@ -1,7 +1,7 @@
 use Rattle.std.proofs.Common.{arith}
 use Rattle.snp_model.proofs.Chains.{chain3}
-use Rattle.report_text.proofs.Digits.{digits_four}
-use Rattle.report_text.proofs.base16.put_large.Goals as goal
+use Rattle.script_text.proofs.HexDigits.{digits_four}
+use Rattle.script_text.proofs.base16.put_large.Goals as goal
 
 pub returns-clause-text : goal.returns-clause-text
 returns-clause-text c =

@@ -1,6 +1,6 @@
 use Rattle.std.proofs.Common.{◌≡◌, ◌+◌, ◌*◌, ◌++◌, take}
 use Rattle.snp_model.specs.EventText.{hex_bytes}
-use Rattle.report_text.proofs.base16.put_bytes.Given as goal
+use Rattle.script_text.proofs.base16.put_bytes.Given as goal
 
 abbrev pub invariant-loop-byte : goal.invariant-loop-byte
 invariant-loop-byte l = record {

@@ -1,6 +1,6 @@
 use Rattle.std.proofs.Common.{◌++◌, List, ℕ, take, sym, ap, ◌∙◌, arith, append-nil}
-use Rattle.report_text.proofs.Digits.{bytes_more, hex_bytes_none}
-use Rattle.report_text.proofs.base16.put_bytes.Goals as goal
+use Rattle.script_text.proofs.HexDigits.{bytes_more, hex_bytes_none}
+use Rattle.script_text.proofs.base16.put_bytes.Goals as goal
 
 pub loop-byte-init : goal.loop-byte-init
 loop-byte-init c =

@@ -4,7 +4,7 @@ use lib.Ieee.Fits.{and_l, and_r}
 use Rattle.std.proofs.lemmas.Bool.Decides.{nat_tests}
 use Rattle.std.specs.Fmt.{digits, digits_onto, digit_glyph}
 use Rattle.snp_model.specs.EventText.{hex_bytes}
-use Rattle.report_text.specs.declared.base16.TheConstants.{PAIRS}
+use Rattle.script_text.specs.declared.base16.TheConstants.{PAIRS}
 
 -- the last k digits of n at most, and then these
 unfoldable onto : ℕ → ℕ → List ℕ → List ℕ

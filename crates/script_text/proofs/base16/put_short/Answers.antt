@@ -1,7 +1,7 @@
 use Rattle.std.proofs.Common.{arith}
 use Rattle.snp_model.proofs.Chains.{chain2}
-use Rattle.report_text.proofs.Digits.{digits_pair}
-use Rattle.report_text.proofs.base16.put_short.Goals as goal
+use Rattle.script_text.proofs.HexDigits.{digits_pair}
+use Rattle.script_text.proofs.base16.put_short.Goals as goal
 
 pub returns-clause-text : goal.returns-clause-text
 returns-clause-text c =
