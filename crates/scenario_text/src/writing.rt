@@ -1,5 +1,6 @@
 ghost use Rattle.std.specs.Prelude.{◌≡◌, ◌+◌, ◌*◌, ◌≤◌, [], ◌∷◌, ◌++◌, length, take, codes, decimal, OnErr};
 ghost use Rattle.snp_model.specs.Outside.{Rose, Writes};
+ghost use Rattle.snp_model.specs.Reading.{Reads, Valid, most_bytes};
 ghost use Rattle.snp_model.specs.Report.{line};
 ghost use Rattle.snp_model.specs.ScenarioText.{
   actor_line,
@@ -29,9 +30,12 @@ use script_text::write_item;
 use script_text::writing::{put_perms, put_size};
 use snp_model::{Actor, GuestSpec, Line, PageSpec, Paging, Role, Scenario, Turn, WordSpec};
 
-/// Writes the text of a scenario: the first two lines by one call, and each other line by a call of its own. Takes no memory.
+/// Writes the text of a scenario: the first two lines by one call, and each other line by a call of its own. Takes no memory. What is
+/// written of a scenario that some text can say is read again as that scenario, where it isn't longer than a text may be.
+#[tactic(auto, using(crate::proofs::ValidAgain::valid_reads))]
 pub fn write_scenario<K: Sink>(scenario: &Scenario, sink: &mut K) -> Result<(), SinkFault>
     ensures text { Writes (K.written sink.old) (K.written sink.new) result (scenario_text scenario.now) }
+    ensures again { Valid scenario.now → length (scenario_text scenario.now) ≤ most_bytes → Reads (scenario_text scenario.now) scenario.now }
     ensures later { K.faults sink.old ≤ K.faults sink.new }
     ensures cause { OnErr result (Rose (K.faults sink.old) (K.faults sink.new)) }
 {
