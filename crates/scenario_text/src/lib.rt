@@ -18,6 +18,8 @@ mod taken;
 mod tests;
 mod text;
 mod writing;
+#[cfg(test)]
+mod writing_tests;
 
 pub use fault::ScenarioFault;
 pub use text::read_scenario;

@@ -298,7 +298,7 @@ fn is_limited(alloc: Global, text: &str, of: Quantity, most: u64) -> bool {
 }
 
 // A text with a line of each form.
-const WHOLE: &str =
+pub(crate) const WHOLE: &str =
     "snp 2\nregions 2\nguest 1 opened asid 5 iv 0 key 00000000000000000000000000000000000000000000000000000000000000ff\npage 0x3 of 1 at 7 4k invalid 1 2 0xf\npage 512 of 1 at 0xffffffe00 2m valid 4 5 6\npage 511 of 1 at 0xffffffdff 4k valid 0 0 0\nword 3 511 0xffffffffffffffff\n# actors\nactor 1 cpu 1 vmpl 3 npt 9 flat\nload 8\nstore 0xfffffffffffffff8 2\nswap 0x10 5\ncas 0x10 5 6\nxor 0x10 3\nskip 1 if ok\npvalidate 0x200000 2m 1 retry 3\nrmpadjust 0x200000 2m 3 0xf 0\nactor 2 host\nstore 0x1ffff8 0\nload 0x1ffff8\nrmpupdate 3 4k 0 0 0 0\npsmash 512 retry 2\nskip 2 if bad\nskip 8192 if value 7\nactor 3 cpu 1 vmpl 1 npt 0x1ff gcr3 0xfffffffff\nload 0\nactor 4 cpu 1 vmpl 1 npt 511 la57 1\norder 1*2 2\n\norder 7\nend\n";
 
 // A processor whose guest tables begin at the last guest page, in the last frame of a region.
@@ -317,7 +317,7 @@ const WITH_FIVE_LEVELS: Role = Role::Cpu {
     paging: Paging::Five(1),
 };
 
-fn is_whole(scenario: &Scenario) -> bool {
+pub(crate) fn is_whole(scenario: &Scenario) -> bool {
     let mut key = [0; 32];
     key[31] = 0xff;
     let guest = GuestSpec {

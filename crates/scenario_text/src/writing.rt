@@ -294,9 +294,9 @@ fn write_order<K: Sink>(turns: &[Turn], sink: &mut K) -> Result<(), SinkFault>
     Ok(())
 }
 
-// Puts the order line of a few runs into the front of a buffer.
+// Puts the order line of some runs, as many as a buffer holds, into its front.
 fn put_order(turns: &[Turn], out: &mut [u8; 1024]) -> usize
-    requires { length turns.now ≤ 16 }
+    requires { length turns.now ≤ 24 }
     ensures end { result ≤ 1024 }
     ensures text { take result out.new ≡ line (joined (codes "order" ∷ turn_words turns.now)) }
 {
