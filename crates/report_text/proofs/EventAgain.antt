@@ -1,26 +1,24 @@
 -- The line of an event that is written is read again as that event.
-use Rattle.std.proofs.Common.{◌≡◌, ◌⊎◌, ℕ, suc, ◌+◌, ◌^◌, ◌<◌, ◌≤◌, Bool, true, false, cond, List, [], ◌∷◌, ◌++◌, length, take, drop, refl, sym, ◌∙◌, ap, subst, inl, inr, arith, length-append}
-use Rattle.std.specs.Prelude.{Option, Some, None, Result, Ok, Err, bytes_eq, codes, decimal, nat_le, nat_lt, ◌==◌, ◌&&◌, IfSome}
-use Rattle.std.specs.List.{All, AllByRecursion, list_all, position_or_len}
-use Rattle.std.proofs.Math.Seq.{take-append_seam, drop-append_seam}
+use Rattle.std.proofs.Common.{◌≡◌, ℕ, suc, ◌+◌, ◌^◌, ◌<◌, ◌≤◌, Bool, true, false, cond, List, ◌∷◌, ◌++◌, length, drop, refl, ◌∙◌, arith, length-append}
+use Rattle.std.specs.Prelude.{Option, Some, None, Result, Ok, Err, bytes_eq, codes, decimal, nat_le, nat_lt, ◌==◌, IfSome}
+use Rattle.std.specs.List.{AllByRecursion}
+use Rattle.std.proofs.Math.Seq.{drop-append_seam}
 use Rattle.std.proofs.lemmas.Bool.Decides.{nat_tests}
 use Rattle.std.proofs.lemmas.Slice.Eq.{bytes_eq-Decides}
-use Rattle.snp_model.specs.declared.entry.PageSize.{PageSize}
-use Rattle.snp_model.specs.declared.entry.PageSize.TheVariants.{Small, Large}
 use Rattle.snp_model.specs.declared.reading.Reason.{Reason}
 use Rattle.snp_model.specs.declared.event.Deed.{Deed}
 use Rattle.snp_model.specs.declared.event.Deed.TheVariants.{Begin, Nested, Table, Access, Host, Lock, LockContext, Compute, Commit, CommitContext, Control}
 use Rattle.snp_model.specs.declared.event.Outcome.{Outcome}
 use Rattle.snp_model.specs.declared.event.Outcome.TheVariants.{Loaded, Opaque, Stored, Swapped, Compared, Gp, Pf, Npf, Vc, Offline, Status, Carry, StatusInUse, Firmware, FirmwareInUse, BadTag, Next, Skipped}
 use Rattle.snp_model.specs.declared.event.Event.{Event}
-use Rattle.snp_model.specs.EventText.{event_text, hex, hex_bytes, read_text, size_text}
+use Rattle.snp_model.specs.EventText.{event_text}
 use Rattle.snp_model.specs.Lines as lines
 use Rattle.snp_model.specs.Lines.{cut_at, words_of}
-use Rattle.snp_model.specs.Spelling.{behind, joined}
+use Rattle.snp_model.specs.Spelling.{joined}
 use Rattle.script_text.proofs.HexWords.{bytes_spelled, hex_spelled}
 use Rattle.script_text.proofs.SpellingLaws.{IsWord, decimal_word, line_plain, words_again}
-use Rattle.report_text.specs.EventLines.{attempt_word, attempt_parts, bare_deed_of, bare_outcome, carry_outcome, confirmed, commit_context_of, commit_of, compared_outcome, counted_outcome, decimal_below, deed_of, ending_of, event_of, firmware_in_use, frame_word, gpn_word, hex_word, host_of, line_event, lock_context_of, lock_of, long_outcome, named_outcome, nested_of, one_of, outcome_of, read_of, read_word, status_in_use, table_of, access_of, tag_word, tags_outcome, valued_outcome}
-use Rattle.report_text.specs.EventNumbers.{IsDeed, IsEvent, IsLineOf, IsOutcome, IsTag}
+use Rattle.report_text.specs.EventLines.{bare_deed_of, bare_outcome, carry_outcome, confirmed, commit_context_of, commit_of, compared_outcome, counted_outcome, deed_of, ending_of, event_of, firmware_in_use, host_of, line_event, lock_context_of, lock_of, long_outcome, named_outcome, nested_of, one_of, outcome_of, read_of, status_in_use, table_of, access_of, tags_outcome, valued_outcome}
+use Rattle.report_text.specs.EventNumbers.{IsDeed, IsEvent, IsLineOf, IsOutcome}
 use Rattle.report_text.proofs.CutLaws.{attempt_again, decimal_below_again, frame_again, gpn_again, around_spelled, hex_around_spelled, read_again, read_spelled}
 use Rattle.report_text.proofs.DecimalLaws.{all_words, decimal_again, size_again, size_spelled}
 use Rattle.report_text.proofs.EventWords.{around, chosen_word, deed_said, ending_said, event_joined, event_said, outcome_said}

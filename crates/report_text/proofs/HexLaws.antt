@@ -1,10 +1,10 @@
 -- Numbers that are written in base 16 are read again.
-use Rattle.std.proofs.Common.{◌≡◌, ℕ, ◌^◌, ◌<◌, true, false, List, ◌∷◌, length, get_or, ◌∙◌, refl, inl, inr, arith, eq-zero-or-pos}
+use Rattle.std.proofs.Common.{◌≡◌, ℕ, ◌^◌, ◌<◌, true, false, List, ◌∷◌, length, get_or, refl, inl, inr, arith, eq-zero-or-pos}
 use Rattle.std.specs.Prelude.{Ok, nat_lt}
 use Rattle.std.specs.Fmt.{digits}
 use Rattle.std.proofs.lemmas.Bool.Decides.{nat_tests}
 use Rattle.snp_model.specs.EventText.{hex}
-use Rattle.snp_model.specs.Lines.{hex_of, in_word, is_hex, is_prefixed, number, number_of}
+use Rattle.snp_model.specs.Lines.{hex_of, is_hex, is_prefixed, number, number_of}
 use Rattle.script_text.proofs.HexWords.{IsHexOf, hex_digits}
 use Rattle.report_text.specs.EventLines.{hex_below, hex_word, is_fewest}
 

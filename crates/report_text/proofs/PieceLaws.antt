@@ -1,6 +1,5 @@
 -- A word behind others.
-use Rattle.std.proofs.Common.{◌≡◌, ℕ, zero, suc, ◌+◌, List, [], ◌∷◌, drop, refl, ap, sym, ◌∙◌, arith}
-use Rattle.std.specs.Prelude.{slice_index_or}
+use Rattle.std.proofs.Common.{◌≡◌, ℕ, zero, suc, ◌+◌, List, [], ◌∷◌, drop, refl, arith}
 use Rattle.snp_model.specs.Lines.{word}
 
 pub word_behind : (ws : List (List ℕ)) (from k : ℕ) → word (drop from ws) k ≡ word ws (from + k)

@@ -1,5 +1,5 @@
 -- Tags that are written are read again.
-use Rattle.std.proofs.Common.{◌≡◌, ℕ, ◌*◌, true, List, length, subst, refl, arith}
+use Rattle.std.proofs.Common.{◌≡◌, ℕ, true, List, length, subst, refl, arith}
 use Rattle.std.specs.Prelude.{Ok, ◌==◌, map}
 use Rattle.std.specs.List.{range_with_len}
 use Rattle.std.proofs.lemmas.Bool.Decides.{nat_tests}

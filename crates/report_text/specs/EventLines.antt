@@ -1,7 +1,6 @@
 -- How the line of an event is read, word by word. This project's own.
-use Rattle.std.specs.Prelude.{ℕ, ◌+◌, ◌^◌, ◌==◌, nat_lt, nat_le, Bool, true, false, not, ◌&&◌, ◌||◌, if◌then◌else◌, List, [], ◌∷◌, length, map, drop, slice_index, Option, Some, None, Result, Ok, Err, codes, bytes_eq}
+use Rattle.std.specs.Prelude.{ℕ, ◌+◌, ◌^◌, ◌==◌, nat_lt, nat_le, Bool, true, false, not, ◌&&◌, ◌||◌, if◌then◌else◌, List, length, map, drop, slice_index, Option, Some, None, Result, Ok, Err, codes, bytes_eq}
 use Rattle.std.specs.List.{list_all, range_with_len}
-use Rattle.snp_model.specs.declared.entry.PageSize.{PageSize}
 use Rattle.snp_model.specs.declared.reading.Reason.{Reason}
 use Rattle.snp_model.specs.declared.reading.Reason.TheVariants.{Form, Number, Range}
 use Rattle.snp_model.specs.declared.event.Deed.{Deed}

@@ -1,5 +1,5 @@
 -- What is written of a scenario that some text can say is read again as that scenario.
-use Rattle.std.specs.Prelude.{ℕ, ◌≤◌, length}
+use Rattle.std.specs.Prelude.{◌≤◌, length}
 use Rattle.snp_model.specs.declared.scenario.Scenario.{Scenario}
 use Rattle.snp_model.specs.Reading.{Reads, Valid, most_bytes}
 use Rattle.snp_model.specs.ScenarioText.{scenario_text}

@@ -1,4 +1,3 @@
-use Rattle.std.proofs.Common.{rules, ℕ}
 use Rattle.drill_gen.proofs.DrawnValid.{drawn_valid}
 use Rattle.drill_gen.proofs.GeneratedSound.{generated_sound}
 use Rattle.drill_gen.proofs.law.generated_scenarios.Goals as goal
