@@ -12,11 +12,12 @@ use Rattle.snp_model.specs.ScenarioLines.{before_pages, guest_row, has_asid, nex
 use Rattle.snp_model.specs.ScenarioText.{guest_line, guest_lines, opening_text}
 use Rattle.snp_model.specs.Sound.{AsidsDiffer, IsGuest, Pairwise}
 use Rattle.snp_model.specs.Spelling.{joined}
+use Rattle.script_text.proofs.HexWords.{bytes_spelled}
 use Rattle.script_text.proofs.ItemAgain.{ranged_decimal}
 use Rattle.script_text.proofs.SpellingLaws.{IsWord, decimal_word, number_decimal}
 use Rattle.scenario_text.specs.Spelled.{HasWholeKey}
 use Rattle.scenario_text.proofs.EarlierLaws.{each_earlier, none_passes}
-use Rattle.scenario_text.proofs.KeyAgain.{key_again, key_word}
+use Rattle.scenario_text.proofs.KeyAgain.{key_again}
 use Rattle.scenario_text.proofs.MakesAgain.{more_make, said_fits}
 
 -- a line isn't passed over if its first word isn't
@@ -78,7 +79,7 @@ unfolding guest_line
 guest_fits c number guest stands next few is whole differ =
     let row = guest_again c number guest next few is whole (asid_free guest c.guests differ) in
     said_fits c (codes "guest") (guest_words number guest) (reading (with_guests c (c.guests ++ guest ∷ []))) refl
-    (decimal_word number (omega arith), (opening_word guest.opened, (refl, (decimal_word guest.asid (omega (arith, is.asid_below)), (refl, (decimal_word guest.iv is.iv, (refl, (key_word guest.key is.key, tt)))))))) refl (not_passed (codes "guest") (guest_words number guest) refl)
+    (decimal_word number (omega arith), (opening_word guest.opened, (refl, (decimal_word guest.asid (omega (arith, is.asid_below)), (refl, (decimal_word guest.iv is.iv, (refl, (bytes_spelled guest.key is.key, tt)))))))) refl (not_passed (codes "guest") (guest_words number guest) refl)
     (guest_taken c number guest stands ∙ guest_added c number guest next few row)
 
 -- the guests behind those that are read already
