@@ -7,7 +7,7 @@ use Rattle.snp_model.specs.declared.scenario.GuestSpec.{GuestSpec}
 use Rattle.snp_model.specs.declared.scenario.Scenario.{Scenario}
 use Rattle.snp_model.specs.EventText.{hex_bytes}
 use Rattle.snp_model.specs.Lines.{fixed}
-use Rattle.snp_model.specs.Reading.{Makes, add_guest, add_words, fit, is_passed_over, reading}
+use Rattle.snp_model.specs.Reading.{Makes, add_guest, add_words, fit, reading}
 use Rattle.snp_model.specs.ScenarioLines.{before_pages, guest_row, has_asid, next_number, opening}
 use Rattle.snp_model.specs.ScenarioText.{guest_line, guest_lines, opening_text}
 use Rattle.snp_model.specs.Sound.{AsidsDiffer, IsGuest, Pairwise}
@@ -18,12 +18,8 @@ use Rattle.script_text.proofs.SpellingLaws.{IsWord, decimal_word, number_decimal
 use Rattle.scenario_text.specs.Spelled.{HasWholeKey}
 use Rattle.scenario_text.proofs.EarlierLaws.{each_earlier, none_passes}
 use Rattle.scenario_text.proofs.KeyAgain.{key_again}
+use Rattle.scenario_text.proofs.NamedLines.{named}
 use Rattle.scenario_text.proofs.MakesAgain.{more_make, said_fits}
-
--- a line isn't passed over if its first word isn't
-pub not_passed : (w : List ℕ) (ws : List (List ℕ)) → is_passed_over w ≡ false → is_passed_over (joined (w ∷ ws)) ≡ false
-not_passed [] ws read = absurd (cc)
-not_passed (byte ∷ w) ws read = grind (arith, nat_tests, read)
 
 -- a next number
 pub next_again : (count number : ℕ) → number ≡ count + 1 → number < 2 ^ 64 → next_number count (decimal number) ≡ Ok number
@@ -79,7 +75,7 @@ unfolding guest_line
 guest_fits c number guest stands next few is whole differ =
     let row = guest_again c number guest next few is whole (asid_free guest c.guests differ) in
     said_fits c (codes "guest") (guest_words number guest) (reading (with_guests c (c.guests ++ guest ∷ []))) refl
-    (decimal_word number (omega arith), (opening_word guest.opened, (refl, (decimal_word guest.asid (omega (arith, is.asid_below)), (refl, (decimal_word guest.iv is.iv, (refl, (bytes_spelled guest.key is.key, tt)))))))) refl (not_passed (codes "guest") (guest_words number guest) refl)
+    (decimal_word number (omega arith), (opening_word guest.opened, (refl, (decimal_word guest.asid (omega (arith, is.asid_below)), (refl, (decimal_word guest.iv is.iv, (refl, (bytes_spelled guest.key is.key, tt)))))))) refl (named (joined (codes "guest" ∷ guest_words number guest)) refl)
     (guest_taken c number guest stands ∙ guest_added c number guest next few row)
 
 -- the guests behind those that are read already

@@ -18,10 +18,11 @@ use Rattle.snp_model.specs.Sound.{FramesDiffer, GpnsDiffer, IsPage, Pairwise}
 use Rattle.snp_model.proofs.PairLaws.{each_two}
 use Rattle.script_text.proofs.AgainLaws.{size_again, size_spelled}
 use Rattle.script_text.proofs.ItemAgain.{below_decimal, multiple_of}
+use Rattle.snp_model.specs.Spelling.{joined}
 use Rattle.script_text.proofs.SpellingLaws.{IsWord, decimal_word, number_decimal}
 use Rattle.scenario_text.specs.Spelled.{IsOfOpened}
 use Rattle.scenario_text.proofs.EarlierLaws.{each_earlier, none_passes}
-use Rattle.scenario_text.proofs.GuestsAgain.{not_passed}
+use Rattle.scenario_text.proofs.NamedLines.{named}
 use Rattle.scenario_text.proofs.MakesAgain.{more_make, said_fits}
 
 -- whether a page is validated
@@ -145,7 +146,7 @@ three_fit c page x y z stands small few is opened free =
           ),
         ),
       ),
-    ) refl (not_passed (codes "page") (page_words page x y z) refl)
+    ) refl (named (joined (codes "page" ∷ page_words page x y z)) refl)
     (page_taken c page x y z stands ∙ page_added c (codes "page" ∷ page_words page x y z) (with_perms page x y z) (page_again c page x y z small few is opened free))
 
 -- so does that of every page, which has three permissions
