@@ -1,0 +1,4 @@
+use Rattle.snp_top.proofs.stubs.hash_report.Goals as goal
+
+pub returns : goal.returns
+returns c = ?
