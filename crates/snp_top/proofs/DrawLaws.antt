@@ -69,9 +69,9 @@ drawn_known (inr (inl is)) = (omega (arith, is), λ e. absurd (omega (arith, is,
 drawn_known (inr (inr is)) = (omega (arith, is), λ e. absurd (omega (arith, is, e)))
 
 pub drawn_not : {k : ℕ} (n : ℕ) → (k ≡ 0) ⊎ ((k ≡ 6) ⊎ (k ≡ 7)) → n ≢ 0 → n ≢ 6 → n ≢ 7 → k ≢ n
-drawn_not n (inl is) zero six seven e = absurd (zero (omega (arith, is, e)))
-drawn_not n (inr (inl is)) zero six seven e = absurd (six (omega (arith, is, e)))
-drawn_not n (inr (inr is)) zero six seven e = absurd (seven (omega (arith, is, e)))
+drawn_not n (inl is) none six seven e = absurd (none (omega (arith, is, e)))
+drawn_not n (inr (inl is)) none six seven e = absurd (six (omega (arith, is, e)))
+drawn_not n (inr (inr is)) none six seven e = absurd (seven (omega (arith, is, e)))
 
 pub drawn_complete : {k : ℕ} → (k ≡ 0) ⊎ ((k ≡ 6) ⊎ (k ≡ 7)) → (k ≢ 6) → (k ≡ 0) ⊎ (k ≡ 7)
 drawn_complete (inl is) whole = inl is

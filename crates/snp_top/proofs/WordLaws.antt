@@ -6,7 +6,8 @@ use Rattle.std.specs.Prelude.{bytes_eq, codes, slice_index, slice_index_or}
 use Rattle.snp_model.specs.CommandLine.{are_words, drill_number, gen_number, is_alone, is_measure, is_replay, number_behind}
 use Rattle.snp_model.specs.Lines.{decimal_of}
 use Rattle.snp_top.specs.Runs.{is_run}
-use Rattle.snp_top.specs.Words.{AsksFor, takes_text}
+use Rattle.snp_top.specs.declared.words.Asked.{Asked}
+use Rattle.snp_top.specs.Words.{AsksFor, IsAsked, takes_text}
 
 -- two names that begin with different bytes aren't both the word
 apart : (w name other : List ℕ) → (slice_index name 0 ≡ slice_index other 0 → ⊥) → bytes_eq w name ≡ true → bytes_eq w other ≡ true → ⊥
@@ -90,16 +91,16 @@ some_number : {o : Option ℕ} {number : ℕ} → o ≡ Some number → is_some 
 some_number is = ap (λ (o : Option ℕ). is_some o) is
 
 pub some_replay : (words : List (List ℕ)) → is_replay words ≡ true → are_words words ≡ true
-some_replay words asked = or_left (is_replay words) _ asked
+some_replay words asked = or_left _ (is_some (drill_number words)) (or_left _ (is_some (gen_number words)) (or_left (is_replay words) (is_measure words) asked))
 
 pub some_measure : (words : List (List ℕ)) → is_measure words ≡ true → are_words words ≡ true
-some_measure words asked = or_right (is_replay words) _ (or_left (is_measure words) _ asked)
+some_measure words asked = or_left _ (is_some (drill_number words)) (or_left _ (is_some (gen_number words)) (or_right (is_replay words) (is_measure words) asked))
 
 pub some_gen : (words : List (List ℕ)) (number : ℕ) → gen_number words ≡ Some number → are_words words ≡ true
-some_gen words number asked = or_right (is_replay words) _ (or_right (is_measure words) _ (or_left (is_some (gen_number words)) _ (some_number asked)))
+some_gen words number asked = or_left _ (is_some (drill_number words)) (or_right (is_replay words || is_measure words) (is_some (gen_number words)) (some_number asked))
 
 pub some_drill : (words : List (List ℕ)) (number : ℕ) → drill_number words ≡ Some number → are_words words ≡ true
-some_drill words number asked = or_right (is_replay words) _ (or_right (is_measure words) _ (or_right (is_some (gen_number words)) _ (some_number asked)))
+some_drill words number asked = or_right (is_replay words || is_measure words || is_some (gen_number words)) (is_some (drill_number words)) (some_number asked)
 
 pub some_drawn : (words : List (List ℕ)) (number : ℕ) → AsksFor number words → are_words words ≡ true
 some_drawn words number (inl gen) = some_gen words number gen
@@ -116,6 +117,6 @@ some_text words takes = go (either (is_replay words) (is_measure words) takes)
 pub or_none : {b : Bool} → b ≡ false → b ≡ true → ⊥
 or_none none some = false≢true (sym none ∙ some)
 
--- words that are none of the four are none
-pub no_words : (words : List (List ℕ)) → is_replay words ≡ false → is_measure words ≡ false → gen_number words ≡ None → drill_number words ≡ None → are_words words ≡ false
-no_words words replay measure gen drill = λ i. replay i || (measure i || (is_some (gen i) || is_some (drill i)))
+-- the words are those of the command that was told
+pub asks_that : (words : List (List ℕ)) {a b : Asked} → a ≡ b → IsAsked words (Some a) → IsAsked words (Some b)
+asks_that words same asked = subst (λ (x : Asked). IsAsked words (Some x)) same asked

@@ -1,12 +1,12 @@
-use Rattle.std.proofs.Common.{ℕ, List, map, string_bytes, ◌⊎◌, ◌≡◌, true, false, Option, Some, inl, inr, subst, refl, arith}
+use Rattle.std.proofs.Common.{ℕ, List, map, string_bytes, ◌⊎◌, ◌≡◌, true, false, Option, Some, inl, inr, subst, refl, ap, ◌∙◌, arith}
 use Rattle.snp_model.specs.CommandLine.{are_words, drill_number, gen_number, is_measure, is_replay}
 use Rattle.snp_top.specs.Batch.{Outside}
 use Rattle.snp_top.specs.Drills.{CutsDrill, CutsScenario, SaysDrill, SaysScenario, WritesDrill, WritesScenario}
-use Rattle.snp_top.specs.Faults.{error_line}
+use Rattle.snp_top.specs.Faults.{error_line, status_of}
 use Rattle.snp_top.proofs.BatchLaws.{Told, told_status, told_read, told_run, told_report, told_ordered, told_legal, told_words, told_read_failed, told_read_stopped, told_read_line, told_refusal, told_refusal_where, told_limit, told_limit_where, told_bad_turn, told_bad_turn_where, told_write_failed, told_cut_report, told_memory_line, told_complete}
 use Rattle.snp_top.proofs.DrawLaws.{Drawn, drawn_complete, drawn_cut, drawn_failed, drawn_known, drawn_memory_line, drawn_not, drawn_statuses, drawn_whole, takes_none}
 use Rattle.snp_top.proofs.MeasureLaws.{Measured, measured_status, measured_read, measured_digest, measured_words, measured_turns, measured_refusal, measured_refusal_where, measured_limit, measured_too_long, measured_too_long_where, measured_read_failed, measured_read_stopped, measured_read_line, measured_write_failed, measured_cut, measured_memory_line, measured_complete}
-use Rattle.snp_top.proofs.WordLaws.{gen_or_drill, measure_or_drawn, not_measure, or_none, replay_or_drawn, replay_or_measure, same_drill, same_gen, some_drawn, some_drill, some_gen, some_measure, some_replay, some_text, text_or_drawn}
+use Rattle.snp_top.proofs.WordLaws.{asks_that, gen_or_drill, measure_or_drawn, not_measure, or_none, replay_or_drawn, replay_or_measure, same_drill, same_gen, some_drawn, some_drill, some_gen, some_measure, some_replay, some_text, text_or_drawn}
 use Rattle.snp_top.proofs.batch.snp_batch.Goals as goal
 
 -- words of no command
@@ -15,7 +15,7 @@ unfolding error_line
 returns-in-None g c =
     let words : List (List ℕ) = map string_bytes c.args.words.now.items in
     let none : are_words words ≡ false = c.in-None.ensures in
-    let two : c.exit_status.result ≡ 2 = ? in
+    let two : c.exit_status.result ≡ 2 = c.exit_status.ensures ∙ ap status_of c.refuse.ensures.same in
     let line = c.refuse.ensures.line in
     record {
       source_read = λ zero takes. absurd (or_none none (some_text words takes));
@@ -60,13 +60,13 @@ returns-in-None g c =
     }
 
 -- `replay`
-pub returns-in-Some-in-Replay : goal.returns-in-Some-in-Replay
-returns-in-Some-in-Replay g c =
+pub returns-in-Some-Replay : goal.returns-in-Some-Replay
+returns-in-Some-Replay g c =
     let words : List (List ℕ) = map string_bytes c.args.words.now.items in
     let before : Outside = record { left = g.S.Source.left c.args.source.now; read_faults = g.S.Source.faults c.args.source.now; written = g.K.Sink.written c.args.sink.now; write_faults = g.K.Sink.faults c.args.sink.now } in
     let now : Outside = record { left = g.S.Source.left c.carry_out_replay.new.source; read_faults = g.S.Source.faults c.carry_out_replay.new.source; written = g.K.Sink.written c.carry_out_replay.new.sink; write_faults = g.K.Sink.faults c.carry_out_replay.new.sink } in
-    let told : Told c.exit_status-in-Replay.result before now = record { outcome = c.carry_out_replay.result; status = c.exit_status-in-Replay.ensures; explains = c.carry_out_replay.ensures.explained } in
-    let asked : is_replay words ≡ true = c.read_words.ensures in
+    let told : Told c.exit_status-in-Some-Replay.result before now = record { outcome = c.carry_out_replay.result; status = c.exit_status-in-Some-Replay.ensures; explains = c.carry_out_replay.ensures.explained } in
+    let asked : is_replay words ≡ true = asks_that words c.in-Some-Replay.field-0-is c.in-Some-Replay.ensures in
     record {
       source_read = λ zero takes. told_read told zero;
       scenario_read = λ zero replays. told_run told zero;
@@ -110,13 +110,13 @@ returns-in-Some-in-Replay g c =
     }
 
 -- `measure`
-pub returns-in-Some-in-Measure : goal.returns-in-Some-in-Measure
-returns-in-Some-in-Measure g c =
+pub returns-in-Some-Measure : goal.returns-in-Some-Measure
+returns-in-Some-Measure g c =
     let words : List (List ℕ) = map string_bytes c.args.words.now.items in
     let before : Outside = record { left = g.S.Source.left c.args.source.now; read_faults = g.S.Source.faults c.args.source.now; written = g.K.Sink.written c.args.sink.now; write_faults = g.K.Sink.faults c.args.sink.now } in
     let now : Outside = record { left = g.S.Source.left c.carry_out_measure.new.source; read_faults = g.S.Source.faults c.carry_out_measure.new.source; written = g.K.Sink.written c.carry_out_measure.new.sink; write_faults = g.K.Sink.faults c.carry_out_measure.new.sink } in
-    let told : Measured c.exit_status-in-Measure.result before now = record { outcome = c.carry_out_measure.result; status = c.exit_status-in-Measure.ensures; explains = c.carry_out_measure.ensures.explained } in
-    let asked : is_measure words ≡ true = c.read_words.ensures in
+    let told : Measured c.exit_status-in-Some-Measure.result before now = record { outcome = c.carry_out_measure.result; status = c.exit_status-in-Some-Measure.ensures; explains = c.carry_out_measure.ensures.explained } in
+    let asked : is_measure words ≡ true = asks_that words c.in-Some-Measure.field-0-is c.in-Some-Measure.ensures in
     record {
       source_read = λ zero takes. measured_read told zero;
       scenario_read = λ zero replays. absurd (replay_or_measure words replays asked);
@@ -160,15 +160,15 @@ returns-in-Some-in-Measure g c =
     }
 
 -- `gen`
-pub returns-in-Some-in-Gen : goal.returns-in-Some-in-Gen
-returns-in-Some-in-Gen g c =
+pub returns-in-Some-Gen : goal.returns-in-Some-Gen
+returns-in-Some-Gen g c =
     let words : List (List ℕ) = map string_bytes c.args.words.now.items in
-    let n : ℕ = c.in-Gen.number in
+    let n : ℕ = c.in-Some-Gen.number in
     let old : Option (List ℕ) = g.K.Sink.written c.args.sink.now in
     let now : Option (List ℕ) = g.K.Sink.written c.carry_out_gen.new.sink in
-    let drawn : Drawn c.exit_status-in-Gen.result (SaysScenario n) old now (g.K.Sink.faults c.args.sink.now) (g.K.Sink.faults c.carry_out_gen.new.sink) = record { outcome = c.carry_out_gen.result; status = c.exit_status-in-Gen.ensures; out = c.carry_out_gen.ensures.answer } in
+    let drawn : Drawn c.exit_status-in-Some-Gen.result (SaysScenario n) old now (g.K.Sink.faults c.args.sink.now) (g.K.Sink.faults c.carry_out_gen.new.sink) = record { outcome = c.carry_out_gen.result; status = c.exit_status-in-Some-Gen.ensures; out = c.carry_out_gen.ensures.answer } in
     let status = drawn_statuses drawn in
-    let asked : gen_number words ≡ Some n = c.read_words.ensures in
+    let asked : gen_number words ≡ Some n = asks_that words c.in-Some-Gen.field-0-is c.in-Some-Gen.ensures in
     record {
       source_read = λ zero takes. absurd (text_or_drawn words n takes (inl asked));
       scenario_read = λ zero replays. absurd (replay_or_drawn words n replays (inl asked));
@@ -212,15 +212,15 @@ returns-in-Some-in-Gen g c =
     }
 
 -- `drill`
-pub returns-in-Some-in-Drill : goal.returns-in-Some-in-Drill
-returns-in-Some-in-Drill g c =
+pub returns-in-Some-Drill : goal.returns-in-Some-Drill
+returns-in-Some-Drill g c =
     let words : List (List ℕ) = map string_bytes c.args.words.now.items in
-    let n : ℕ = c.in-Drill.number in
+    let n : ℕ = c.in-Some-Drill.number in
     let old : Option (List ℕ) = g.K.Sink.written c.args.sink.now in
     let now : Option (List ℕ) = g.K.Sink.written c.carry_out_drill.new.sink in
-    let drawn : Drawn c.exit_status-in-Drill.result (SaysDrill n) old now (g.K.Sink.faults c.args.sink.now) (g.K.Sink.faults c.carry_out_drill.new.sink) = record { outcome = c.carry_out_drill.result; status = c.exit_status-in-Drill.ensures; out = c.carry_out_drill.ensures.answer } in
+    let drawn : Drawn c.exit_status-in-Some-Drill.result (SaysDrill n) old now (g.K.Sink.faults c.args.sink.now) (g.K.Sink.faults c.carry_out_drill.new.sink) = record { outcome = c.carry_out_drill.result; status = c.exit_status-in-Some-Drill.ensures; out = c.carry_out_drill.ensures.answer } in
     let status = drawn_statuses drawn in
-    let asked : drill_number words ≡ Some n = c.read_words.ensures in
+    let asked : drill_number words ≡ Some n = asks_that words c.in-Some-Drill.field-0-is c.in-Some-Drill.ensures in
     record {
       source_read = λ zero takes. absurd (text_or_drawn words n takes (inr asked));
       scenario_read = λ zero replays. absurd (replay_or_drawn words n replays (inr asked));
