@@ -128,7 +128,7 @@ actors_attempts_are (role ∷ rest) count g =
     one_more (length rest) count _ _ (script_attempts_are role count g) (actors_attempts_are rest count (script_for role count g).1)
 
 -- each of so many from one on
-each_from : {X : Type 0} (P : X → Type 0) (f : ℕ → X) (first count : ℕ) → ((k : ℕ) → first ≤ k → k < first + count → P (f k)) → AllByRecursion P (map f (range_with_len first count))
+pub each_from : {X : Type 0} (P : X → Type 0) (f : ℕ → X) (first count : ℕ) → ((k : ℕ) → first ≤ k → k < first + count → P (f k)) → AllByRecursion P (map f (range_with_len first count))
 each_from P f first zero is = tt
 each_from P f first (suc count) is = (is first (omega arith) (omega arith), each_from P f (first + 1) count (λ k from below. is k (omega arith) (omega arith)))
 

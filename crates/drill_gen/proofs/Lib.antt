@@ -1,3 +1,5 @@
+pub mod DrawnSpelled
+pub mod DrawnValid
 pub mod GeneratedCommands
 pub mod GeneratedLaws
 pub mod GeneratedSound

@@ -1,6 +1,7 @@
 ghost use Rattle.std.specs.Prelude.{◌≡◌, [], ◌≤◌, ◌<◌, length, IfOk, OnOk, OnErr};
 ghost use Rattle.snp_model.specs.Outside.{Adds, EndsWhereEmpty, ReadTakes, Rose, WriteAdds};
 ghost use Rattle.outside_port.specs.Counts.{faults_after_read, faults_after_write, one_more};
+ghost use Rattle.outside_port.specs.Holding.{Tells, WriteHolds};
 
 use crate::{Failed, Sink, Source};
 use std::io::{Read, Write};
@@ -97,11 +98,14 @@ impl<W: Write> WriterSink<W> {
 impl<W: Write> Sink for WriterSink<W> {
     ghost written = { λ s. s.written };
 
+    ghost holds = { λ s text. Tells s.written text };
+
     ghost faults = { λ s. s.faults };
 
     fn write(&mut self, bytes: &[u8]) -> Result<usize, Failed>
         ensures count { IfOk result (λ n. n ≤ length bytes.now) }
         ensures adds { WriteAdds self.old.written self.new.written result bytes.now }
+        ensures held { WriteHolds (Tells self.old.written) (Tells self.new.written) result bytes.now }
         ensures later { self.old.faults ≤ self.new.faults }
         ensures failed { OnErr result (Rose self.old.faults self.new.faults) }
         ensures stuck { IfOk result

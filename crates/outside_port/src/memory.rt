@@ -1,6 +1,7 @@
 ghost use Rattle.std.specs.Prelude.{◌≡◌, ◌+◌, ◌-◌, ◌^◌, ◌<◌, ◌≤◌, ◌↔◌, min, length, [], ◌++◌, vec_capacity, IfOk, OnErr, IsErr, IsTrue, Contains, take, Some};
 ghost use Rattle.snp_model.specs.Outside.{EndsWhereEmpty, ReadTakes, Rose, WriteAdds};
 ghost use Rattle.outside_port.specs.Counts.{faults_after_read, faults_after_write, one_more};
+ghost use Rattle.outside_port.specs.Holding.{Tells, WriteHolds};
 
 use crate::{Failed, Sink, Source};
 use std::alloc::{AllocError, Global};
@@ -130,11 +131,14 @@ impl MemorySink {
 impl Sink for MemorySink {
     ghost written = { λ s. Some s.bytes };
 
+    ghost holds = { λ s text. Tells (Some s.bytes) text };
+
     ghost faults = { λ s. s.faults };
 
     fn write(&mut self, bytes: &[u8]) -> Result<usize, Failed>
         ensures count { IfOk result (λ n. n ≤ length bytes.now) }
         ensures adds { WriteAdds (Some self.old.bytes) (Some self.new.bytes) result bytes.now }
+        ensures held { WriteHolds (Tells (Some self.old.bytes)) (Tells (Some self.new.bytes)) result bytes.now }
         ensures later { self.old.faults ≤ self.new.faults }
         ensures failed { OnErr result (Rose self.old.faults self.new.faults) }
         ensures stuck { IfOk result

@@ -17,14 +17,15 @@ use Rattle.snp_model.specs.EventText.{event_text, hex, hex_bytes, read_text, siz
 use Rattle.snp_model.specs.Lines as lines
 use Rattle.snp_model.specs.Lines.{cut_at, words_of}
 use Rattle.snp_model.specs.Spelling.{behind, joined}
+use Rattle.script_text.proofs.HexWords.{bytes_spelled, hex_spelled}
 use Rattle.script_text.proofs.SpellingLaws.{IsWord, decimal_word, line_plain, words_again}
 use Rattle.report_text.specs.EventLines.{attempt_word, attempt_parts, bare_deed_of, bare_outcome, carry_outcome, confirmed, commit_context_of, commit_of, compared_outcome, counted_outcome, decimal_below, deed_of, ending_of, event_of, firmware_in_use, frame_word, gpn_word, hex_word, host_of, line_event, lock_context_of, lock_of, long_outcome, named_outcome, nested_of, one_of, outcome_of, read_of, read_word, status_in_use, table_of, access_of, tag_word, tags_outcome, valued_outcome}
 use Rattle.report_text.specs.EventNumbers.{IsDeed, IsEvent, IsLineOf, IsOutcome, IsTag}
 use Rattle.report_text.proofs.CutLaws.{attempt_again, decimal_below_again, frame_again, gpn_again, around_spelled, hex_around_spelled, read_again, read_spelled}
 use Rattle.report_text.proofs.DecimalLaws.{all_words, decimal_again, size_again, size_spelled}
 use Rattle.report_text.proofs.EventWords.{around, chosen_word, deed_said, ending_said, event_joined, event_said, outcome_said}
-use Rattle.report_text.proofs.HexLaws.{hex_again, hex_spelled}
-use Rattle.report_text.proofs.TagLaws.{bytes_spelled, tag_again}
+use Rattle.report_text.proofs.HexLaws.{hex_again}
+use Rattle.report_text.proofs.TagLaws.{tag_again}
 
 -- as many words as are asked, with others behind them
 one : (more : ℕ) → nat_le 1 (suc more) ≡ true

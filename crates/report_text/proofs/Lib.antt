@@ -1,6 +1,5 @@
 pub mod CutLaws
 pub mod DecimalLaws
-pub mod Digits
 pub mod EventAgain
 pub mod EventWords
 pub mod HexLaws

@@ -1,7 +1,6 @@
 //! The text of a report, and the line that tells a launch digest.
 #![tactic(auto)]
 
-mod base16;
 mod deeds;
 mod digest;
 mod laws;
@@ -11,6 +10,8 @@ mod outcomes;
 mod pieces;
 mod reading;
 mod report;
+#[cfg(test)]
+mod tests;
 
 pub use digest::write_digest;
 pub use laws::runs_are_longest;

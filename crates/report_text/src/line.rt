@@ -1,7 +1,7 @@
 ghost use Rattle.std.specs.Prelude.{◌≡◌, ◌+◌, ◌≤◌, ◌++◌, length, take};
 ghost use Rattle.snp_model.specs.EventText.{deed_text, ending_text, event_text, hex, outcome_text, read_text};
 
-use crate::base16::{put_bytes, put_hex};
+use script_text::base16::{put_bytes, put_hex};
 use script_text::pen::{put, put_named, put_number};
 use snp_model::{Deed, Event, Outcome, PageSize};
 

@@ -3,12 +3,13 @@ ghost use Rattle.snp_model.specs.EventText.{event_text};
 ghost use Rattle.snp_model.specs.Journal.{actors_of};
 ghost use Rattle.snp_model.specs.Outside.{Rose, Writes};
 ghost use Rattle.snp_model.specs.Report.{digest_text, end_text, event_lines, guest_lines, guest_text, head_text, line, order_lines, report_text, runs_of, state_text};
+ghost use Rattle.outside_port.specs.Holding.{Held};
 
-use crate::base16::put_bytes;
 use crate::line::put_line;
 use crate::order::put_order;
 use outside_port::{Sink, SinkFault, write_all};
 use run_journal::Journal;
+use script_text::base16::put_bytes;
 use script_text::pen::{put, put_named};
 use snp_model::{Event, GuestLine, GuestState};
 
@@ -23,6 +24,7 @@ pub fn write_report<K: Sink>(
     requires version { (1 ≤ version) × (version ≤ 2) }
     requires short { length journal.now.list < 2 ^ 32 }
     ensures text { Writes (K.written sink.old) (K.written sink.new) result (report_text version journal.now.list guests.now.items) }
+    ensures held { Held (K.holds sink.old) (K.holds sink.new) result (report_text version journal.now.list guests.now.items) }
     ensures later { K.faults sink.old ≤ K.faults sink.new }
     ensures cause { OnErr result (Rose (K.faults sink.old) (K.faults sink.new)) }
 {
@@ -37,6 +39,7 @@ pub fn write_report<K: Sink>(
 #[tactic(auto, unfolding(snp_model::specs::Report::head_text))]
 fn write_head<K: Sink>(version: u8, sink: &mut K) -> Result<(), SinkFault>
     ensures text { Writes (K.written sink.old) (K.written sink.new) result (line (head_text version)) }
+    ensures held { Held (K.holds sink.old) (K.holds sink.new) result (line (head_text version)) }
     ensures later { K.faults sink.old ≤ K.faults sink.new }
     ensures cause { OnErr result (Rose (K.faults sink.old) (K.faults sink.new)) }
 {
@@ -50,6 +53,7 @@ fn write_head<K: Sink>(version: u8, sink: &mut K) -> Result<(), SinkFault>
 fn write_events<K: Sink>(journal: &Journal, sink: &mut K) -> Result<(), SinkFault>
     requires { length journal.now.list < 2 ^ 32 }
     ensures text { Writes (K.written sink.old) (K.written sink.new) result (event_lines 0 journal.now.list) }
+    ensures held { Held (K.holds sink.old) (K.holds sink.new) result (event_lines 0 journal.now.list) }
     ensures later { K.faults sink.old ≤ K.faults sink.new }
     ensures cause { OnErr result (Rose (K.faults sink.old) (K.faults sink.new)) }
 {
@@ -80,6 +84,7 @@ fn put_event(out: &mut [u8], at: usize, k: u32, actor: u32, event: &Event) -> us
 // Writes the order lines.
 fn write_order<K: Sink>(journal: &Journal, sink: &mut K) -> Result<(), SinkFault>
     ensures text { Writes (K.written sink.old) (K.written sink.new) result (order_lines (runs_of (actors_of journal.now.list))) }
+    ensures held { Held (K.holds sink.old) (K.holds sink.new) result (order_lines (runs_of (actors_of journal.now.list))) }
     ensures later { K.faults sink.old ≤ K.faults sink.new }
     ensures cause { OnErr result (Rose (K.faults sink.old) (K.faults sink.new)) }
 {
@@ -96,6 +101,7 @@ fn write_order<K: Sink>(journal: &Journal, sink: &mut K) -> Result<(), SinkFault
 // Writes a line for each guest.
 fn write_guests<K: Sink>(guests: &Vec<GuestLine>, sink: &mut K) -> Result<(), SinkFault>
     ensures text { Writes (K.written sink.old) (K.written sink.new) result (guest_lines guests.now.items) }
+    ensures held { Held (K.holds sink.old) (K.holds sink.new) result (guest_lines guests.now.items) }
     ensures later { K.faults sink.old ≤ K.faults sink.new }
     ensures cause { OnErr result (Rose (K.faults sink.old) (K.faults sink.new)) }
 {
@@ -113,6 +119,7 @@ fn write_guest<K: Sink>(
     sink: &mut K,
 ) -> Result<(), SinkFault>
     ensures text { Writes (K.written sink.old) (K.written sink.new) result (line (guest_text guest.now)) }
+    ensures held { Held (K.holds sink.old) (K.holds sink.new) result (line (guest_text guest.now)) }
     ensures later { K.faults sink.old ≤ K.faults sink.new }
     ensures cause { OnErr result (Rose (K.faults sink.old) (K.faults sink.new)) }
 {
@@ -167,6 +174,7 @@ fn put_digest(out: &mut [u8], at: usize, pages: u32, digest: &[u8; 48]) -> usize
 #[tactic(auto, unfolding(snp_model::specs::Report::end_text))]
 fn write_end<K: Sink>(count: usize, sink: &mut K) -> Result<(), SinkFault>
     ensures text { Writes (K.written sink.old) (K.written sink.new) result (line (end_text count)) }
+    ensures held { Held (K.holds sink.old) (K.holds sink.new) result (line (end_text count)) }
     ensures later { K.faults sink.old ≤ K.faults sink.new }
     ensures cause { OnErr result (Rose (K.faults sink.old) (K.faults sink.new)) }
 {

@@ -1,5 +1,5 @@
 -- Lines that fit in turn, and lines of words as they are written.
-use Rattle.std.proofs.Common.{◌≡◌, ℕ, ◌≤◌, Bool, true, false, List, [], ◌∷◌, ◌++◌, length, refl, sym, subst, arith}
+use Rattle.std.proofs.Common.{◌≡◌, ℕ, true, false, List, [], ◌∷◌, ◌++◌, length, refl, sym, subst}
 use Rattle.std.specs.Prelude.{Ok, nat_le}
 use Rattle.std.specs.List.{AllByRecursion}
 use Rattle.snp_model.specs.declared.scenario.Scenario.{Scenario}

@@ -1,8 +1,10 @@
 //! Laws of what scenario texts say. The functions do nothing: their contracts are the laws.
 
+ghost use Rattle.std.specs.Prelude.{◌≤◌, length};
 ghost use Rattle.snp_model.specs.declared.scenario.Scenario.{Scenario};
 ghost use Rattle.snp_model.specs.Findings.{OneAnswer, SomeAnswer};
-ghost use Rattle.snp_model.specs.Reading.{Valid};
+ghost use Rattle.snp_model.specs.Reading.{Reads, Valid, most_bytes};
+ghost use Rattle.snp_model.specs.ScenarioText.{scenario_text};
 ghost use Rattle.snp_model.specs.Sound.{IsSound};
 
 /// Of a text at most one thing can be said: one scenario, one line with one reason, or one limit with one count.
@@ -19,4 +21,10 @@ pub fn some_answer()
 /// schedule, and of each of its entries.
 pub fn valid_is_sound()
     ensures { (scenario : Scenario) → Valid scenario → IsSound scenario }
+{}
+
+/// The text of a scenario that some text can say says that scenario, where it isn't longer than a text may be.
+#[tactic(auto, using(crate::proofs::ValidAgain::valid_reads))]
+pub fn written_is_read()
+    ensures { (scenario : Scenario) → Valid scenario → length (scenario_text scenario) ≤ most_bytes → Reads (scenario_text scenario) scenario }
 {}

@@ -17,6 +17,8 @@ mod taken;
 #[cfg(test)]
 mod tests;
 mod text;
+mod writing;
 
 pub use fault::ScenarioFault;
 pub use text::read_scenario;
+pub use writing::write_scenario;

@@ -1,5 +1,7 @@
 pub mod AgainLaws
 pub mod CommandAgain
+pub mod HexDigits
+pub mod HexWords
 pub mod ItemAgain
 pub mod NumberLaws
 pub mod PartsLaws

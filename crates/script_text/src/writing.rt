@@ -29,9 +29,9 @@ fn put_argument(out: &mut [u8], at: usize, number: u64) -> usize
     put_named(out, at, b" ", number)
 }
 
-// Writes a space and the size of a page.
+/// Writes a space and the size of a page, and gives the place after them.
 #[tactic(auto, unfolding(snp_model::specs::EventText::size_text))]
-fn put_size(out: &mut [u8], at: usize, size: PageSize) -> usize
+pub fn put_size(out: &mut [u8], at: usize, size: PageSize) -> usize
     requires { at + 3 ≤ length out.old }
     ensures end { result ≤ at + 3 }
     ensures text { take result out.new ≡ take at out.old ++ (32 ∷ size_text size) }
@@ -113,9 +113,9 @@ fn put_validate(out: &mut [u8], at: usize, address: u64, size: PageSize, validat
     put_flag(out, end, validate)
 }
 
-// Writes the permissions of three levels.
+/// Writes the permissions of three levels, each after a space, and gives the place after them.
 #[tactic(auto, using(crate::proofs::SpellingLaws::behind_three))]
-fn put_perms(out: &mut [u8], at: usize, perms: &[u8; 3]) -> usize
+pub fn put_perms(out: &mut [u8], at: usize, perms: &[u8; 3]) -> usize
     requires { at + 63 ≤ length out.old }
     ensures end { result ≤ at + 63 }
     ensures text { take result out.new ≡ take at out.old ++ behind (numbers perms.now) }

@@ -3,7 +3,7 @@ use Rattle.std.proofs.Common.{◌≡◌, Bool, ◌||◌, true, false, refl, IfSo
 use Rattle.std.proofs.lemmas.Bool.{false≢true}
 use Rattle.snp_model.specs.declared.scenario.Scenario.{Scenario}
 use Rattle.snp_model.specs.CommandLine.{is_measure, is_replay}
-use Rattle.snp_model.specs.Drills.{drill_text}
+use Rattle.snp_model.specs.Drill.{drill_text}
 use Rattle.snp_model.specs.Ending.{report_of}
 use Rattle.snp_model.specs.Generated.{generated}
 use Rattle.snp_model.specs.MeasureText.{digest_line}

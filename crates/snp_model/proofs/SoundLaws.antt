@@ -81,12 +81,12 @@ none_any test Q (x ∷ xs) shows none =
       | false ↦ λ is. (shows x is, none_any test Q xs shows (grind (arith, nat_tests, is, none)))
     ] refl
 
-at_end : {X : Type 0} (P : X → Type 0) (xs : List X) (k : ℕ) (x : X) → AllByRecursion P xs → slice_get xs k ≡ Some x → P x
+pub at_end : {X : Type 0} (P : X → Type 0) (xs : List X) (k : ℕ) (x : X) → AllByRecursion P xs → slice_get xs k ≡ Some x → P x
 at_end P [] k x all is = absurd (cc)
 at_end P (y ∷ ys) zero x all is = let e : y ≡ x = cc in subst P e all.0
 at_end P (y ∷ ys) (suc k) x all is = at_end P ys k x all.1 is
 
-all_take : {X : Type 0} (P : X → Type 0) (xs : List X) (k : ℕ) → AllByRecursion P xs → AllByRecursion P (take k xs)
+pub all_take : {X : Type 0} (P : X → Type 0) (xs : List X) (k : ℕ) → AllByRecursion P xs → AllByRecursion P (take k xs)
 all_take P [] zero all = tt
 all_take P [] (suc k) all = tt
 all_take P (y ∷ ys) zero all = tt

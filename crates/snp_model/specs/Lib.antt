@@ -5,7 +5,7 @@ pub mod Allowed
 pub mod Attempts
 pub mod Bounds
 pub mod CommandLine
-pub mod Drills
+pub mod Drill
 pub mod Ending
 pub mod Entries
 pub mod EventText

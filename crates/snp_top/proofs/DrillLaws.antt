@@ -7,7 +7,7 @@ use Rattle.rand_pcg.specs.Lcg.{Lcg}
 use Rattle.snp_model.specs.declared.event.Event.{Event}
 use Rattle.snp_model.specs.declared.event.Outcome.{Outcome}
 use Rattle.snp_model.specs.declared.scenario.Scenario.{Scenario}
-use Rattle.snp_model.specs.Drills.{IsPicked, IsPickedFrom, count_where, drill_lines, drill_text, is_some_where}
+use Rattle.snp_model.specs.Drill.{IsPicked, IsPickedFrom, count_where, drill_lines, drill_text, is_some_where}
 use Rattle.snp_model.specs.Ending.{lines_of, report_of}
 use Rattle.snp_model.specs.Generated.{drawn_scenario, generated, generator_of}
 use Rattle.snp_model.specs.Journal.{JournalImage}
@@ -21,7 +21,7 @@ use Rattle.snp_model.proofs.RunLaws.{length_run}
 use Rattle.snp_model.proofs.SoundLaws.{valid_is_sound}
 use Rattle.snp_top.specs.declared.replay.Played.{Played}
 use Rattle.snp_top.specs.Drills.{IsDrilled, PlaysPicks, SaysDrill, SaysScenario}
-use Rattle.snp_top.proofs.DrawnValid.{drawn_valid}
+use Rattle.drill_gen.proofs.DrawnValid.{drawn_valid}
 use Rattle.snp_top.proofs.ReplayLaws.{state_guests}
 
 -- the scenario that a drill drew first

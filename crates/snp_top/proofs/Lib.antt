@@ -2,7 +2,6 @@ pub mod BatchLaws
 pub mod CauseLaws
 pub mod CommandLaws
 pub mod DrawLaws
-pub mod DrawnValid
 pub mod DrillLaws
 pub mod MeasureLaws
 pub mod PickLaws

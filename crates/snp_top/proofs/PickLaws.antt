@@ -11,7 +11,7 @@ use Rattle.rand_pcg.specs.Pcg.{pcg32}
 use Rattle.snp_model.specs.declared.event.Event.{Event}
 use Rattle.snp_model.specs.declared.scenario.Scenario.{Scenario}
 use Rattle.snp_model.specs.Attempts.{attempts_of}
-use Rattle.snp_model.specs.Drills.{IsPicked, IsPickedFrom, unfinished, unfinished_from}
+use Rattle.snp_model.specs.Drill.{IsPicked, IsPickedFrom, unfinished, unfinished_from}
 use Rattle.snp_model.specs.Generated.{draw, drawn_scenario, generated, generator_of}
 use Rattle.snp_model.specs.Journal.{JournalImage}
 use Rattle.snp_model.specs.Opening.{opening}

@@ -2,7 +2,7 @@
 use Rattle.std.specs.Prelude.{◌≡◌, ℕ, ◌++◌, Bool, List, length, Option, Result, Ok, Err, codes, decimal}
 use Rattle.rand_pcg.specs.Lcg.{Lcg}
 use Rattle.snp_model.specs.declared.event.Outcome.{Outcome}
-use Rattle.snp_model.specs.Drills.{IsPicked, IsPickedFrom, drill_text, is_other}
+use Rattle.snp_model.specs.Drill.{IsPicked, IsPickedFrom, drill_text, is_other}
 use Rattle.snp_model.specs.Ending.{lines_of}
 use Rattle.snp_model.specs.EventText.{hex_bytes}
 use Rattle.snp_model.specs.Generated.{generated}

@@ -1,12 +1,12 @@
 //! `gen` and `drill`: what a number determines.
 ghost use Rattle.std.specs.Prelude.{◌≡◌, ◌+◌, ◌^◌, ◌<◌, ◌≤◌, ◌++◌, length, take, decimal, IfOk};
-ghost use Rattle.snp_model.specs.Drills.{count_where, drill_lines, is_some_where};
+ghost use Rattle.snp_model.specs.Drill.{count_where, drill_lines, is_some_where};
 ghost use Rattle.snp_model.specs.Report.{line, report_text};
 ghost use Rattle.snp_top.specs.Drills.{DrawsOut, IsDrilled, SaysDrill, SaysScenario, is_of, tally_text};
 
 use crate::batch::refuse;
 use crate::fault::CommandFault;
-use crate::stubs::{hash_report, put_bytes, write_scenario};
+use crate::hashing::hash_report;
 use crate::picking::play_picks;
 use crate::replay::{Played, take_guests};
 use crate::schedule::empty_journal;
@@ -14,6 +14,8 @@ use drill_gen::Drill;
 use machine_core::Machine;
 use outside_port::{Sink, write_all};
 use run_journal::Journal;
+use scenario_text::write_scenario;
+use script_text::base16::put_bytes;
 use script_text::pen::{put, put_named};
 use snp_model::Outcome;
 use std::alloc::{AllocError, Global};
@@ -100,7 +102,7 @@ pub struct Tally {
 }
 
 // What a drill came to.
-#[tactic(auto, unfolding(crate::specs::Drills::tally_text, snp_model::specs::Drills::drill_lines))]
+#[tactic(auto, unfolding(crate::specs::Drills::tally_text, snp_model::specs::Drill::drill_lines))]
 fn tally_of(number: u64, played: &Played) -> Tally
     requires version { (1 ≤ played.now.version) × (played.now.version ≤ 2) }
     requires short { length played.now.journal.list < 2 ^ 32 }

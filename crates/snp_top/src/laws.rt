@@ -1,6 +1,6 @@
 //! Laws of the definitions.
 ghost use Rattle.std.specs.Prelude.{◌≡◌, ℕ, List};
-ghost use Rattle.snp_model.specs.Drills.{IsPicked};
+ghost use Rattle.snp_model.specs.Drill.{IsPicked};
 
 /// A number's drill has a schedule, and one alone. A law, which no program needs to call.
 #[tactic(auto, using(crate::proofs::PickLaws::one_schedule, crate::proofs::PickLaws::some_picked))]

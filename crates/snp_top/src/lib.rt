@@ -8,9 +8,12 @@ mod drilling;
 mod errors;
 pub mod fault;
 pub mod fleet;
+pub mod hashing;
+#[cfg(test)]
+mod hashing_tests;
 pub mod input;
-pub mod locked_fleet;
 pub mod laws;
+pub mod locked_fleet;
 mod measuring;
 mod picking;
 pub mod program;
@@ -19,7 +22,6 @@ pub mod run;
 #[cfg(test)]
 mod run_tests;
 pub mod schedule;
-mod stubs;
 #[cfg(test)]
 mod tests;
 mod words;

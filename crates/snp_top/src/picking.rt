@@ -1,7 +1,7 @@
 //! The schedule of a drill, which is drawn as it is played.
 ghost use Rattle.std.specs.Prelude.{◌≡◌, ◌<◌, ◌≤◌, length, slice_get, Some};
 ghost use Rattle.machine_core.specs.Machine.{state_of};
-ghost use Rattle.snp_model.specs.Drills.{unfinished};
+ghost use Rattle.snp_model.specs.Drill.{unfinished};
 ghost use Rattle.snp_model.specs.Limits.{most};
 ghost use Rattle.snp_model.specs.State.{IsUnfinished};
 ghost use Rattle.snp_top.specs.Drills.{PlaysPicks};

@@ -1,6 +1,7 @@
 use Rattle.std.proofs.Common.{refl}
 use Rattle.std.proofs.lemmas.Result.{err_from_is_err_and}
 use Rattle.snp_model.proofs.Adding.{left_at_first, left_after, prefix_after, writes_last}
+use Rattle.outside_port.proofs.HoldingLaws.{holds_at_first, holds_after, holds_last}
 use Rattle.report_text.proofs.Lines.{report_is}
 use Rattle.report_text.proofs.report.write_report.Goals as goal
 
@@ -37,3 +38,11 @@ returns-clause-text g c =
     let guests = left_after _ _ _ _ _ _ _ order c.in_ok-write_order.ensures.text refl in
     let end = left_after _ _ _ _ _ _ _ guests c.in_ok-write_guests.ensures.text refl in
     writes_last _ _ _ _ _ _ end (rw c.len.ensures at c.write_end.ensures.text)
+
+pub returns-clause-held : goal.returns-clause-held
+returns-clause-held g c =
+    let events = holds_after _ _ _ _ _ _ _ (holds_at_first _ _) c.in_ok-write_head.ensures.held (report_is c.args.version c.args.journal.now.list c.args.guests.now.items) in
+    let order = holds_after _ _ _ _ _ _ _ events c.in_ok-write_events.ensures.held refl in
+    let guests = holds_after _ _ _ _ _ _ _ order c.in_ok-write_order.ensures.held refl in
+    let end = holds_after _ _ _ _ _ _ _ guests c.in_ok-write_guests.ensures.held refl in
+    holds_last _ _ (g.K.Sink.holds c.write_end.new.sink) _ _ _ end (rw c.len.ensures at c.write_end.ensures.held)

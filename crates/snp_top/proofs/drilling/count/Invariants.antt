@@ -1,6 +1,6 @@
 -- the events that were counted and those that are left
 use Rattle.std.proofs.Common.{◌≡◌, ◌+◌, ◌≤◌, drop}
-use Rattle.snp_model.specs.Drills.{count_where}
+use Rattle.snp_model.specs.Drill.{count_where}
 use Rattle.snp_top.specs.Drills.{is_of}
 use Rattle.snp_top.proofs.drilling.count.Given as goal
 

@@ -1,7 +1,7 @@
 -- the actors that were counted and those that are left
 use Rattle.std.proofs.Common.{◌≡◌, ◌+◌, ◌≤◌, length, drop}
 use Rattle.machine_core.specs.Machine.{state_of}
-use Rattle.snp_model.specs.Drills.{unfinished, unfinished_from}
+use Rattle.snp_model.specs.Drill.{unfinished, unfinished_from}
 use Rattle.snp_top.proofs.picking.count_unfinished.Given as goal
 
 abbrev pub invariant-actors : goal.invariant-actors

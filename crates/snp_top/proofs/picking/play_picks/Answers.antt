@@ -1,7 +1,7 @@
 use Rattle.std.proofs.Common.{◌≡◌, ◌∷◌, [], ℕ, length, sym, ap, ◌∙◌, subst, arith}
 use Rattle.std.proofs.lemmas.List.{length-append}
 use Rattle.machine_core.specs.Machine.{state_of}
-use Rattle.snp_model.specs.Drills.{unfinished}
+use Rattle.snp_model.specs.Drill.{unfinished}
 use Rattle.snp_model.specs.Generated.{draw}
 use Rattle.snp_model.specs.State.{State}
 use Rattle.snp_model.proofs.RunLaws.{after_length}

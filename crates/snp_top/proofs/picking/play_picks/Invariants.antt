@@ -1,7 +1,7 @@
 -- the events so far are those that were picked
 use Rattle.std.proofs.Common.{◌≡◌, ◌-◌, length}
 use Rattle.machine_core.specs.Machine.{state_of}
-use Rattle.snp_model.specs.Drills.{unfinished}
+use Rattle.snp_model.specs.Drill.{unfinished}
 use Rattle.snp_top.specs.Drills.{PicksOn}
 use Rattle.snp_top.proofs.picking.play_picks.Given as goal
 

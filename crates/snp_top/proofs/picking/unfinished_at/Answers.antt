@@ -1,7 +1,7 @@
 use Rattle.std.proofs.Common.{◌≡◌, ◌<◌, ◌+◌, ℕ, length, drop, sym, ap, ◌∙◌, arith}
 use Rattle.std.specs.Prelude.{slice_get}
 use Rattle.machine_core.specs.Machine.{state_of}
-use Rattle.snp_model.specs.Drills.{unfinished, unfinished_from}
+use Rattle.snp_model.specs.Drill.{unfinished, unfinished_from}
 use Rattle.snp_top.proofs.PickLaws.{actor_here, actor_passed, behind_first, behind_same, none_behind}
 use Rattle.snp_top.proofs.picking.unfinished_at.Goals.{then-not-finished+else-behind-eq0, else-not-finished}
 use Rattle.snp_top.proofs.picking.unfinished_at.Goals as goal

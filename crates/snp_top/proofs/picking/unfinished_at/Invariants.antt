@@ -2,7 +2,7 @@
 use Rattle.std.proofs.Common.{◌≡◌, ◌+◌, ◌<◌, length, drop}
 use Rattle.std.specs.Prelude.{slice_get}
 use Rattle.machine_core.specs.Machine.{state_of}
-use Rattle.snp_model.specs.Drills.{unfinished, unfinished_from}
+use Rattle.snp_model.specs.Drill.{unfinished, unfinished_from}
 use Rattle.snp_top.proofs.picking.unfinished_at.Given as goal
 
 abbrev pub invariant-actors : goal.invariant-actors

@@ -1,0 +1,10 @@
+use Rattle.std.proofs.Common.{rules, ℕ}
+use Rattle.drill_gen.proofs.DrawnValid.{drawn_valid}
+use Rattle.drill_gen.proofs.GeneratedSound.{generated_sound}
+use Rattle.drill_gen.proofs.law.generated_scenarios.Goals as goal
+
+pub returns-clause-valid : goal.returns-clause-valid
+returns-clause-valid c = drawn_valid
+
+pub returns-clause-sound : goal.returns-clause-sound
+returns-clause-sound c = generated_sound
