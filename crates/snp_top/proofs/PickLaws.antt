@@ -201,8 +201,8 @@ picked_from zero c s g defined enough =
     picked_by (state_after c s) g (unfinished (state_after c s)) refl (λ actor is left. let room = run_has_room c s actor defined is in absurd (omega arith))
 picked_from (suc room) c s g defined enough =
     picked_by (state_after c s) g (unfinished (state_after c s)) refl (λ actor is left.
-        let rest = picked_from room c (s ++ actor ∷ []) left (defined_push (opening c) s actor defined is) (omega (arith, length-append s (actor ∷ []))) in
-        (rest.0, subst (λ (k : State). IsPickedFrom k left rest.0) (state_push (opening c) s actor) rest.1))
+    let rest = picked_from room c (s ++ actor ∷ []) left (defined_push (opening c) s actor defined is) (omega (arith, length-append s (actor ∷ []))) in
+    (rest.0, subst (λ (k : State). IsPickedFrom k left rest.0) (state_push (opening c) s actor) rest.1))
 
 -- each number has a schedule
 pub some_picked : (number : ℕ) → (schedule : List ℕ) × IsPicked number schedule

@@ -21,11 +21,7 @@ use snp_model::Outcome;
 use std::alloc::{AllocError, Global};
 
 /// Carries `gen` out: writes the scenario of a number, or an error line for want of memory.
-pub fn carry_out_gen<K: Sink>(
-    alloc: Global,
-    number: u64,
-    sink: &mut K,
-) -> Result<(), CommandFault>
+pub fn carry_out_gen<K: Sink>(alloc: Global, number: u64, sink: &mut K) -> Result<(), CommandFault>
     ensures answer { DrawsOut (SaysScenario number) (K.written sink.old) (K.written sink.new) (K.faults sink.old) (K.faults sink.new) result }
     ensures later { K.faults sink.old ≤ K.faults sink.new }
 {
@@ -90,14 +86,20 @@ fn tell<K: Sink>(number: u64, played: &Played, sink: &mut K) -> Result<(), Comma
     }
 }
 
-/// What a drill came to: how many events it has, how many of them have which sort of outcome, and the digest of its report.
+/// What a drill came to.
 #[derive(Drop)]
 pub struct Tally {
+    /// The number of the drill.
     pub number: u64,
+    /// How many events it has.
     pub events: u64,
+    /// How many of them have an outcome that is good.
     pub good: u64,
+    /// How many tell of something that was in use.
     pub in_use: u64,
+    /// How many have another outcome.
     pub other: u64,
+    /// The SHA-256 digest of its report.
     pub digest: [u8; 32],
 }
 
@@ -119,12 +121,14 @@ fn tally_of(number: u64, played: &Played) -> Tally
     }
 }
 
-// The outcomes that are counted together.
+/// The outcomes that are counted together.
 #[derive(Clone, Copy, Debug, PartialEq, Eq)]
 pub enum Sort {
+    /// Those that are good.
     Good,
+    /// Those that tell of something that was in use.
     InUse,
-    // Neither.
+    /// The others, skips among them.
     Other,
 }
 
