@@ -1,17 +1,23 @@
 -- What a flush leaves of what was written before it: all, since it adds nothing to what a writer has taken.
-use Rattle.std.proofs.Common.{◌≡◌, Bool, IfSome, ℕ, ◌<◌, ◌≤◌, ◌⊎◌, ◌≢◌, zero, suc, List, [], length, Option, Some, None, sym, ◌∙◌, subst, inl, inr, append-nil, arith}
+use Rattle.std.proofs.Common.{◌≡◌, Bool, ◌||◌, true, false, refl, IfSome, ℕ, ◌<◌, ◌≤◌, ◌⊎◌, ◌≢◌, zero, suc, List, [], length, Option, Some, None, sym, ◌∙◌, subst, inl, inr, append-nil, arith}
+use Rattle.std.proofs.lemmas.Bool.{false≢true}
 use Rattle.snp_model.specs.declared.scenario.Scenario.{Scenario}
+use Rattle.snp_model.specs.CommandLine.{is_measure, is_replay}
+use Rattle.snp_model.specs.Drill.{drill_text}
 use Rattle.snp_model.specs.Ending.{report_of}
+use Rattle.snp_model.specs.Generated.{generated}
 use Rattle.snp_model.specs.MeasureText.{digest_line}
 use Rattle.snp_model.specs.Measurement.{measure}
 use Rattle.snp_model.specs.Outside.{Adds, AddsPrefix, Rose}
 use Rattle.snp_model.specs.Report.{report_text}
+use Rattle.snp_model.specs.ScenarioText.{scenario_text}
 use Rattle.snp_model.proofs.Adding.{adds_twice}
 use Rattle.snp_top.specs.Batch.{SaysBadTurn, SaysLimit, SaysRefusal, WritesLine}
+use Rattle.snp_top.specs.Drills.{CutsDrill, CutsScenario, WritesDrill, WritesScenario}
 use Rattle.snp_top.specs.Fleets.{Kept}
 use Rattle.snp_top.specs.Measures.{SaysCutDigest, SaysPageRefusal, WritesDigest}
 use Rattle.snp_top.specs.Replays.{IsRead, ReadsText, SaysOne}
-use Rattle.snp_top.specs.Runs.{IsReported, ReportsKept}
+use Rattle.snp_top.specs.Runs.{IsReported, ReportsKept, is_run, reads_scenario, reads_text}
 
 adds_kept : (old mid now : Option (List ℕ)) (bytes : List ℕ) → Adds old mid bytes → Adds mid now [] → Adds old now bytes
 adds_kept old mid now bytes adds flushed = subst (Adds old now) (append-nil bytes) (adds_twice old mid now bytes [] adds flushed)
@@ -99,6 +105,34 @@ digest_cut (Some text) taken old mid now written flushed =
 pub page_refusal_kept : (left taken old mid now : Option (List ℕ)) (before between after : ℕ) → SaysPageRefusal left taken old mid before between → Adds mid now [] → between ≤ after → SaysPageRefusal left taken old now before after
 page_refusal_kept left taken old mid now before between after refused flushed later = (refused.0, refused.1, refused.2, line_kept old mid now before between after _ refused.3 flushed later)
 
+-- the same of what a number determines
+pub scenario_kept : (number : ℕ) (old mid now : Option (List ℕ)) → WritesScenario number old mid → Adds mid now [] → WritesScenario number old now
+scenario_kept number old mid now writes flushed = adds_kept old mid now (scenario_text (generated number)) writes flushed
+
+pub cut_scenario_kept : (number : ℕ) (old mid now : Option (List ℕ)) → CutsScenario number old mid → Adds mid now [] → CutsScenario number old now
+cut_scenario_kept number old mid now cut flushed = prefix_kept old mid now (scenario_text (generated number)) cut flushed
+
+pub scenario_cut : (number : ℕ) (old mid now : Option (List ℕ)) → WritesScenario number old mid → Adds mid now [] → CutsScenario number old now
+scenario_cut number old mid now writes flushed = whole_cut old now (scenario_text (generated number)) (scenario_kept number old mid now writes flushed)
+
+pub drill_kept : (number : ℕ) (old mid now : Option (List ℕ)) → WritesDrill number old mid → Adds mid now [] → WritesDrill number old now
+drill_kept number old mid now writes flushed = (writes.0, writes.1, adds_kept old mid now (drill_text number writes.0) writes.2 flushed)
+
+pub cut_drill_kept : (number : ℕ) (old mid now : Option (List ℕ)) → CutsDrill number old mid → Adds mid now [] → CutsDrill number old now
+cut_drill_kept number old mid now cut flushed = (cut.0, cut.1, prefix_kept old mid now (drill_text number cut.0) cut.2 flushed)
+
+pub drill_cut : (number : ℕ) (old mid now : Option (List ℕ)) → WritesDrill number old mid → Adds mid now [] → CutsDrill number old now
+drill_cut number old mid now writes flushed = (writes.0, writes.1, whole_cut old now (drill_text number writes.0) (adds_kept old mid now (drill_text number writes.0) writes.2 flushed))
+
+-- a command that reads a scenario reads a text
+pub scenario_is_text : (words : List (List ℕ)) → reads_scenario words ≡ true → reads_text words ≡ true
+scenario_is_text words reads = go (is_run words) (is_replay words) (is_measure words) reads
+  where
+    go : (run replay measure : Bool) → (run || replay) ≡ true → (run || (replay || measure)) ≡ true
+    go true replay measure some = refl
+    go false true measure some = refl
+    go false false measure some = absurd (false≢true some)
+
 -- the status of a command whose output couldn't be handed on is 6 for 0, and else its own
 pub record IsUnflushed (status result : ℕ) : Type 0 where
   pub done : status ≡ 0 → result ≡ 6
@@ -122,3 +156,8 @@ cut_status (suc n) result is meant = let same = is.other (λ e. absurd (omega (a
 pub known_status : (status result : ℕ) → IsUnflushed status result → (status ≤ 8) × (status ≢ 1) → (result ≤ 8) × (result ≢ 1)
 known_status zero result is known = let six = is.done (omega arith) in (omega arith, λ e. absurd (omega (arith, e)))
 known_status (suc n) result is known = let same = is.other (λ e. absurd (omega (arith, e))) in (omega (arith, known.0), λ e. known.1 (omega (arith, e)))
+
+pub drawn_status : (status result : ℕ) → IsUnflushed status result → (status ≡ 0) ⊎ ((status ≡ 6) ⊎ (status ≡ 7)) → (result ≡ 0) ⊎ ((result ≡ 6) ⊎ (result ≡ 7))
+drawn_status status result is (inl zero) = inr (inl (is.done zero))
+drawn_status status result is (inr (inl six)) = inr (inl (same_status status result 6 is (omega arith) six))
+drawn_status status result is (inr (inr seven)) = inr (inr (same_status status result 7 is (omega arith) seven))

@@ -1,4 +1,4 @@
-//! The program: `snp replay < SCENARIO`, `snp run < SCENARIO`, `snp measure < MEASURE_TEXT`.
+//! The program: `snp replay < SCENARIO`, `snp run < SCENARIO`, `snp measure < MEASURE_TEXT`, `snp gen N`, `snp drill N`.
 #![tactic(auto)]
 
 mod session;

@@ -1,16 +1,18 @@
 //! A command over a writer that holds its output back.
 ghost use Rattle.std.specs.Prelude.{◌≡◌, ℕ, ◌≤◌, ◌<◌, ◌≢◌, ◌⊎◌, ◌↔◌, true, false, List, Some, IfSome, length, map, string_bytes};
 ghost use Rattle.snp_model.specs.declared.scenario.Scenario.{Scenario};
-ghost use Rattle.snp_model.specs.CommandLine.{is_measure, is_replay};
+ghost use Rattle.snp_model.specs.CommandLine.{drill_number, gen_number, is_measure, is_replay};
 ghost use Rattle.snp_model.specs.MeasureText.{SaysPages};
 ghost use Rattle.snp_model.specs.Measurement.{LaunchedPage};
 ghost use Rattle.snp_model.specs.Outside.{Adds, AddsPrefix, Rose};
 ghost use Rattle.snp_model.specs.Reading.{Reads, order_of};
 ghost use Rattle.snp_model.specs.Run.{IsDefined};
 ghost use Rattle.snp_top.specs.Batch.{SaysBadTurn, SaysLimit, SaysRefusal};
+ghost use Rattle.snp_top.specs.Drills.{CutsDrill, CutsScenario, WritesDrill, WritesScenario};
 ghost use Rattle.snp_top.specs.Measures.{SaysCutDigest, SaysPageRefusal, WritesDigest};
 ghost use Rattle.snp_top.specs.Replays.{IsRead, ReadsText, SaysOne};
-ghost use Rattle.snp_top.specs.Runs.{IsReported, ReportsKept, are_commands, is_run, reads_scenario};
+ghost use Rattle.snp_top.specs.Runs.{IsReported, ReportsKept, are_commands, is_run, reads_scenario, reads_text};
+ghost use Rattle.snp_top.specs.Words.{AsksFor};
 
 use outside_port::{Failed, Gate, Source, WriterSink};
 use snp_top::fleet::Fleet;
@@ -35,13 +37,19 @@ pub fn answer<S: Source, W: Write, G: Gate + Sync, F: Fleet, R: Threads + Wait +
     fleet: &mut F,
 ) -> u8
     // With status 0 all holds that `snp_main` promises, and the writer has handed on what it held back.
-    ensures source_read { result ≡ 0 → IsRead (S.left source.old) (S.left source.new) }
+    ensures source_read { result ≡ 0 → reads_text (map string_bytes words.now.items) ≡ true → IsRead (S.left source.old) (S.left source.new) }
     ensures reported { result ≡ 0 → reads_scenario (map string_bytes words.now.items) ≡ true → IfSome (S.left source.old)
         (SaysOne (λ c. IsReported (is_run (map string_bytes words.now.items)) c (Adds sink.old.written sink.new.written))) }
     ensures fleet_keeps { result ≡ 0 → is_run (map string_bytes words.now.items) ≡ true → IfSome (S.left source.old)
         (SaysOne (λ c. 0 < length c.actors → ReportsKept c (F.kept fleet.new) sink.old.written sink.new.written)) }
 
     ensures digest_written { result ≡ 0 → is_measure (map string_bytes words.now.items) ≡ true → WritesDigest (S.left source.old) (S.left source.new) sink.old.written sink.new.written }
+    ensures scenario_drawn { (number : ℕ) → result ≡ 0 → gen_number (map string_bytes words.now.items) ≡ Some number → WritesScenario number sink.old.written sink.new.written }
+    ensures drill_written { (number : ℕ) → result ≡ 0 → drill_number (map string_bytes words.now.items) ≡ Some number → WritesDrill number sink.old.written sink.new.written }
+
+    // `gen` and `drill` read no text.
+    ensures source_unread { (number : ℕ) → AsksFor number (map string_bytes words.now.items) → source.new ≡ source.old }
+    ensures drawn_statuses { (number : ℕ) → AsksFor number (map string_bytes words.now.items) → (result ≡ 0) ⊎ ((result ≡ 6) ⊎ (result ≡ 7)) }
 
     // Every other status has its cause.
     ensures statuses { (result ≤ 8) × (result ≢ 1) }
@@ -54,11 +62,13 @@ pub fn answer<S: Source, W: Write, G: Gate + Sync, F: Fleet, R: Threads + Wait +
     ensures report_cut { result ≡ 6 → reads_scenario (map string_bytes words.now.items) ≡ true → ReadsText (S.left source.old) (S.left source.new)
         (SaysOne (λ c. IsReported (is_run (map string_bytes words.now.items)) c (AddsPrefix sink.old.written sink.new.written))) }
     ensures digest_cut { result ≡ 6 → is_measure (map string_bytes words.now.items) ≡ true → SaysCutDigest (S.left source.old) (S.left source.new) sink.old.written sink.new.written }
+    ensures scenario_cut { (number : ℕ) → result ≡ 6 → gen_number (map string_bytes words.now.items) ≡ Some number → CutsScenario number sink.old.written sink.new.written }
+    ensures drill_cut { (number : ℕ) → result ≡ 6 → drill_number (map string_bytes words.now.items) ≡ Some number → CutsDrill number sink.old.written sink.new.written }
     ensures schedule_refused { result ≡ 8 → SaysBadTurn (S.left source.old) (S.left source.new) sink.old.written sink.new.written sink.old.faults sink.new.faults }
     ensures run_has_no_schedule { result ≡ 8 → is_run (map string_bytes words.now.items) ≡ false }
     ensures pages_have_no_schedule { result ≡ 8 → is_measure (map string_bytes words.now.items) ≡ false }
 
-    // Nothing else keeps the report from being written, nor the digest.
+    // Nothing else keeps the report from being written, nor the digest, nor what a number determines.
     ensures replay_complete { (text : List ℕ) (c : Scenario) → is_replay (map string_bytes words.now.items) ≡ true → S.left source.old ≡ Some text
         → Reads text c → IsDefined c (order_of c)
         → (Rose (S.faults source.old) (S.faults source.new) → ⊥) → (Rose sink.old.faults sink.new.faults → ⊥)
@@ -71,6 +81,7 @@ pub fn answer<S: Source, W: Write, G: Gate + Sync, F: Fleet, R: Threads + Wait +
         → SaysPages text pages
         → (Rose (S.faults source.old) (S.faults source.new) → ⊥) → (Rose sink.old.faults sink.new.faults → ⊥)
         → (result ≡ 0) ⊎ (result ≡ 7) }
+    ensures drawn_complete { (number : ℕ) → AsksFor number (map string_bytes words.now.items) → (Rose sink.old.faults sink.new.faults → ⊥) → (result ≡ 0) ⊎ (result ≡ 7) }
 {
     let status = snp_main(rt, alloc, words, source, sink, gate, fleet);
     match sink.flush() {

@@ -6,7 +6,6 @@ use Rattle.snp_model.specs.declared.reading.Quantity.{Quantity}
 use Rattle.snp_model.specs.declared.reading.Quantity.TheVariants.{Bytes}
 use Rattle.snp_model.specs.declared.reading.Reason.{Reason}
 use Rattle.snp_model.specs.declared.scenario.Scenario.{Scenario}
-use Rattle.snp_model.specs.CommandLine.{is_replay}
 use Rattle.snp_model.specs.Ending.{report_of}
 use Rattle.snp_model.specs.Findings.{says, wrong, too_much}
 use Rattle.snp_model.specs.Premises.{AreLegal}
@@ -45,17 +44,17 @@ reported (Some text) now played Says reads writes =
     let is = reads.1.2 in
     (reads.0, (c, reads.1.1, (is.defined, subst Says (played_report c played is) writes)))
 
-pub explains_report : (outcome : Result (Unit {0}) CommandFault) (words : List (List ℕ)) (before now : Outside) (played : Played) → is_replay words ≡ true → ReadsText before.left now.left (SaysOne (λ c. IsPlayed c played))
-    → ReportsTo before.written now.written before.write_faults now.write_faults (report_text played.version played.journal.list played.guests.items) outcome → Explains outcome words before now
-explains_report (Ok done) words before now played fits reads reports = (fits, reported before.left now.left played (Adds before.written now.written) reads reports)
-explains_report (Err faults.Write) words before now played fits reads reports = (fits, reports.1, reported before.left now.left played (AddsPrefix before.written now.written) reads reports.0)
-explains_report (Err fault) words before now played fits reads reports = absurd reports
+pub explains_report : (outcome : Result (Unit {0}) CommandFault) (before now : Outside) (played : Played) → ReadsText before.left now.left (SaysOne (λ c. IsPlayed c played))
+    → ReportsTo before.written now.written before.write_faults now.write_faults (report_text played.version played.journal.list played.guests.items) outcome → Explains outcome before now
+explains_report (Ok done) before now played reads reports = reported before.left now.left played (Adds before.written now.written) reads reports
+explains_report (Err faults.Write) before now played reads reports = (reports.1, reported before.left now.left played (AddsPrefix before.written now.written) reads reports.0)
+explains_report (Err fault) before now played reads reports = absurd reports
 
 -- the outcome of a command with its status, and what it tells
-pub record Told (k : ℕ) (words : List (List ℕ)) (before now : Outside) : Type 0 where
+pub record Told (k : ℕ) (before now : Outside) : Type 0 where
   pub outcome : Result (Unit {0}) CommandFault
   pub status : k ≡ exit_status outcome
-  pub explains : Explains outcome words before now
+  pub explains : Explains outcome before now
 
 -- statuses are those of the outcomes
 status_between : (fault : CommandFault) → (2 ≤ status_of fault) × (status_of fault ≤ 8)
@@ -76,32 +75,32 @@ pub ok_told : (outcome : Result (Unit {0}) CommandFault) (k : ℕ) (P : Type 0) 
 ok_told (Ok done) k P is holds meant = holds
 ok_told (Err fault) k P is holds meant = let between = status_between fault in absurd (omega (arith, meant, is, between.0))
 
-pub told_status : {k : ℕ} {words : List (List ℕ)} {before now : Outside} → Told k words before now → (k ≤ 8) × (k ≢ 1)
+pub told_status : {k : ℕ} {before now : Outside} → Told k before now → (k ≤ 8) × (k ≢ 1)
 told_status told = let P : ℕ → Type 0 = λ n. (n ≤ 8) × (n ≢ 1) in subst P (sym told.status) (exit_between told.outcome)
 
 -- what status 0 tells
-done : {k : ℕ} {words : List (List ℕ)} {before now : Outside} → Told k words before now → k ≡ 0
+done : {k : ℕ} {before now : Outside} → Told k before now → k ≡ 0
     → ReadsText before.left now.left (SaysOne (λ c. IsDefined c (order_of c) × Adds before.written now.written (report_of c (order_of c))))
-done {k} {words} {before} {now} told meant = go told.outcome told.status told.explains
+done {k} {before} {now} told meant = go told.outcome told.status told.explains
   where
-    go : (outcome : Result (Unit {0}) CommandFault) → k ≡ exit_status outcome → Explains outcome words before now
+    go : (outcome : Result (Unit {0}) CommandFault) → k ≡ exit_status outcome → Explains outcome before now
         → ReadsText before.left now.left (SaysOne (λ c. IsDefined c (order_of c) × Adds before.written now.written (report_of c (order_of c))))
-    go (Ok done) is explains = explains.1
+    go (Ok done) is explains = explains
     go (Err fault) is explains = let between = status_between fault in absurd (omega (arith, meant, is, between.0))
 
 text_read : (left now : Option (List ℕ)) (P : List ℕ → Type 0) → ReadsText left now P → IsRead left now
 text_read None now P reads = tt
 text_read (Some text) now P reads = reads.0
 
-pub told_read : {k : ℕ} {words : List (List ℕ)} {before now : Outside} → Told k words before now → k ≡ 0 → IsRead before.left now.left
-told_read {k} {words} {before} {now} told meant = text_read before.left now.left _ (done told meant)
+pub told_read : {k : ℕ} {before now : Outside} → Told k before now → k ≡ 0 → IsRead before.left now.left
+told_read {k} {before} {now} told meant = text_read before.left now.left _ (done told meant)
 
 run_said : (left now : Option (List ℕ)) (P : Scenario → Type 0) → ReadsText left now (SaysOne (λ c. IsDefined c (order_of c) × P c)) → SaysRun left
 run_said None now P reads = tt
 run_said (Some text) now P reads = (reads.1.0, reads.1.1, reads.1.2.0)
 
-pub told_run : {k : ℕ} {words : List (List ℕ)} {before now : Outside} → Told k words before now → k ≡ 0 → SaysRun before.left
-told_run {k} {words} {before} {now} told meant = run_said before.left now.left (λ c. Adds before.written now.written (report_of c (order_of c))) (done told meant)
+pub told_run : {k : ℕ} {before now : Outside} → Told k before now → k ≡ 0 → SaysRun before.left
+told_run {k} {before} {now} told meant = run_said before.left now.left (λ c. Adds before.written now.written (report_of c (order_of c))) (done told meant)
 
 -- a text says one scenario alone
 same_scenario : (text : List ℕ) (c d : Scenario) → Reads text c → Reads text d → c ≡ d
@@ -118,103 +117,91 @@ for_scenario (Some text) now P Q reads gives =
     let one = reads.1 in
     λ c other. subst Q (same_scenario text one.0 c one.1 other) (gives one.0 (said_valid text one.0 one.1) one.2)
 
-pub told_report : {k : ℕ} {words : List (List ℕ)} {before now : Outside} → Told k words before now → k ≡ 0 → ForScenario before.left (λ c. Adds before.written now.written (report_of c (order_of c)))
-told_report {k} {words} {before} {now} told meant =
+pub told_report : {k : ℕ} {before now : Outside} → Told k before now → k ≡ 0 → ForScenario before.left (λ c. Adds before.written now.written (report_of c (order_of c)))
+told_report {k} {before} {now} told meant =
     for_scenario before.left now.left (λ c. IsDefined c (order_of c) × Adds before.written now.written (report_of c (order_of c))) (λ c. Adds before.written now.written (report_of c (order_of c))) (done told meant) (λ c valid is. is.1)
 
-pub told_ordered : {k : ℕ} {words : List (List ℕ)} {before now : Outside} → Told k words before now → k ≡ 0 → ForScenario before.left (λ c. IsOrdered c (order_of c))
-told_ordered {k} {words} {before} {now} told meant =
+pub told_ordered : {k : ℕ} {before now : Outside} → Told k before now → k ≡ 0 → ForScenario before.left (λ c. IsOrdered c (order_of c))
+told_ordered {k} {before} {now} told meant =
     for_scenario before.left now.left (λ c. IsDefined c (order_of c) × Adds before.written now.written (report_of c (order_of c))) (λ c. IsOrdered c (order_of c)) (done told meant) (λ c valid is. run_is_ordered c (order_of c) is.0)
 
-pub told_legal : {k : ℕ} {words : List (List ℕ)} {before now : Outside} → Told k words before now → k ≡ 0 → ForScenario before.left (λ c. AreLegal c (order_of c))
-told_legal {k} {words} {before} {now} told meant =
+pub told_legal : {k : ℕ} {before now : Outside} → Told k before now → k ≡ 0 → ForScenario before.left (λ c. AreLegal c (order_of c))
+told_legal {k} {before} {now} told meant =
     for_scenario before.left now.left (λ c. IsDefined c (order_of c) × Adds before.written now.written (report_of c (order_of c))) (λ c. AreLegal c (order_of c)) (done told meant) (λ c valid is. guests_are_legal c (order_of c) (valid_is_sound c valid) is.0)
 
 -- what each other status tells
-pub told_words_line : {k : ℕ} {words : List (List ℕ)} {before now : Outside} → Told k words before now → k ≡ 2 → Wrote before now (codes "error words\n")
-unfolding error_line
-told_words_line {k} {words} {before} {now} told meant = go told.outcome told.status told.explains
+pub told_words : {k : ℕ} {before now : Outside} → Told k before now → k ≢ 2
+told_words {k} {before} {now} told meant = go told.outcome told.status told.explains
   where
-    go : (outcome : Result (Unit {0}) CommandFault) → k ≡ exit_status outcome → Explains outcome words before now → Wrote before now (error_line faults.Words)
-    go (Err faults.Words) is explains = explains.1
+    go : (outcome : Result (Unit {0}) CommandFault) → k ≡ exit_status outcome → Explains outcome before now → ⊥
+    go (Err faults.Words) is explains = explains.0
     go outcome is explains = absurd (omega (arith, meant, is))
 
-pub told_words : {k : ℕ} {words : List (List ℕ)} {before now : Outside} → Told k words before now → (k ≡ 2) ↔ (is_replay words ≡ false)
-told_words {k} {words} {before} {now} told = (λ two. refused two told.outcome told.status told.explains, λ none. needed none told.outcome told.status told.explains)
-  where
-    refused : k ≡ 2 → (outcome : Result (Unit {0}) CommandFault) → k ≡ exit_status outcome → Explains outcome words before now → is_replay words ≡ false
-    refused meant (Err faults.Words) is explains = explains.0
-    refused meant outcome is explains = absurd (omega (arith, meant, is))
-
-    needed : is_replay words ≡ false → (outcome : Result (Unit {0}) CommandFault) → k ≡ exit_status outcome → Explains outcome words before now → k ≡ 2
-    needed none (Err faults.Words) is explains = is
-    needed none outcome is explains = absurd (false≢true (sym none ∙ explains.0))
-
-pub told_refusal : {k : ℕ} {words : List (List ℕ)} {before now : Outside} → Told k words before now → k ≡ 3
+pub told_refusal : {k : ℕ} {before now : Outside} → Told k before now → k ≡ 3
     → SaysRefusal before.left now.left before.written now.written before.write_faults now.write_faults
 unfolding error_line
-told_refusal {k} {words} {before} {now} told meant = go told.outcome told.status told.explains
+told_refusal {k} {before} {now} told meant = go told.outcome told.status told.explains
   where
-    go : (outcome : Result (Unit {0}) CommandFault) → k ≡ exit_status outcome → Explains outcome words before now → SaysRefusal before.left now.left before.written now.written before.write_faults now.write_faults
-    go (Err (faults.Scenario line reason)) is explains = (line, reason, explains.1, explains.2)
+    go : (outcome : Result (Unit {0}) CommandFault) → k ≡ exit_status outcome → Explains outcome before now → SaysRefusal before.left now.left before.written now.written before.write_faults now.write_faults
+    go (Err (faults.Scenario line reason)) is explains = (line, reason, explains.0, explains.1)
     go outcome is explains = absurd (omega (arith, meant, is))
 
-pub told_limit : {k : ℕ} {words : List (List ℕ)} {before now : Outside} → Told k words before now → k ≡ 4
+pub told_limit : {k : ℕ} {before now : Outside} → Told k before now → k ≡ 4
     → SaysLimit before.left now.left before.written now.written before.write_faults now.write_faults
 unfolding error_line
-told_limit {k} {words} {before} {now} told meant = go told.outcome told.status told.explains
+told_limit {k} {before} {now} told meant = go told.outcome told.status told.explains
   where
-    go : (outcome : Result (Unit {0}) CommandFault) → k ≡ exit_status outcome → Explains outcome words before now → SaysLimit before.left now.left before.written now.written before.write_faults now.write_faults
-    go (Err (faults.Limit quantity count)) is explains = (quantity, count, explains.1, explains.2)
+    go : (outcome : Result (Unit {0}) CommandFault) → k ≡ exit_status outcome → Explains outcome before now → SaysLimit before.left now.left before.written now.written before.write_faults now.write_faults
+    go (Err (faults.Limit quantity count)) is explains = (quantity, count, explains.0, explains.1)
     go outcome is explains = absurd (omega (arith, meant, is))
 
-only_read : {k : ℕ} {words : List (List ℕ)} {before now : Outside} → Told k words before now → k ≡ 5
+only_read : {k : ℕ} {before now : Outside} → Told k before now → k ≡ 5
     → TakesAtMost (most Bytes) before.left now.left × Rose before.read_faults now.read_faults × Wrote before now (codes "error read\n")
 unfolding error_line
-only_read {k} {words} {before} {now} told meant = go told.outcome told.status told.explains
+only_read {k} {before} {now} told meant = go told.outcome told.status told.explains
   where
-    go : (outcome : Result (Unit {0}) CommandFault) → k ≡ exit_status outcome → Explains outcome words before now → TakesAtMost (most Bytes) before.left now.left × Rose before.read_faults now.read_faults × Wrote before now (error_line faults.Read)
-    go (Err faults.Read) is explains = (explains.1.0, explains.1.1, explains.2)
+    go : (outcome : Result (Unit {0}) CommandFault) → k ≡ exit_status outcome → Explains outcome before now → TakesAtMost (most Bytes) before.left now.left × Rose before.read_faults now.read_faults × Wrote before now (error_line faults.Read)
+    go (Err faults.Read) is explains = (explains.0.0, explains.0.1, explains.1)
     go outcome is explains = absurd (omega (arith, meant, is))
 
-pub told_read_failed : {k : ℕ} {words : List (List ℕ)} {before now : Outside} → Told k words before now → k ≡ 5 → Rose before.read_faults now.read_faults
+pub told_read_failed : {k : ℕ} {before now : Outside} → Told k before now → k ≡ 5 → Rose before.read_faults now.read_faults
 told_read_failed told meant = (only_read told meant).1
 
-pub told_read_stopped : {k : ℕ} {words : List (List ℕ)} {before now : Outside} → Told k words before now → k ≡ 5 → TakesAtMost (most Bytes) before.left now.left
+pub told_read_stopped : {k : ℕ} {before now : Outside} → Told k before now → k ≡ 5 → TakesAtMost (most Bytes) before.left now.left
 told_read_stopped told meant = (only_read told meant).0
 
-pub told_read_line : {k : ℕ} {words : List (List ℕ)} {before now : Outside} → Told k words before now → k ≡ 5 → Wrote before now (codes "error read\n")
+pub told_read_line : {k : ℕ} {before now : Outside} → Told k before now → k ≡ 5 → Wrote before now (codes "error read\n")
 told_read_line told meant = (only_read told meant).2
 
-only_write : {k : ℕ} {words : List (List ℕ)} {before now : Outside} → Told k words before now → k ≡ 6
+only_write : {k : ℕ} {before now : Outside} → Told k before now → k ≡ 6
     → Rose before.write_faults now.write_faults × SaysCutReport before.left now.left before.written now.written
-only_write {k} {words} {before} {now} told meant = go told.outcome told.status told.explains
+only_write {k} {before} {now} told meant = go told.outcome told.status told.explains
   where
-    go : (outcome : Result (Unit {0}) CommandFault) → k ≡ exit_status outcome → Explains outcome words before now → Rose before.write_faults now.write_faults × SaysCutReport before.left now.left before.written now.written
-    go (Err faults.Write) is explains = (explains.1, explains.2)
+    go : (outcome : Result (Unit {0}) CommandFault) → k ≡ exit_status outcome → Explains outcome before now → Rose before.write_faults now.write_faults × SaysCutReport before.left now.left before.written now.written
+    go (Err faults.Write) is explains = (explains.0, explains.1)
     go outcome is explains = absurd (omega (arith, meant, is))
 
-pub told_write_failed : {k : ℕ} {words : List (List ℕ)} {before now : Outside} → Told k words before now → k ≡ 6 → Rose before.write_faults now.write_faults
+pub told_write_failed : {k : ℕ} {before now : Outside} → Told k before now → k ≡ 6 → Rose before.write_faults now.write_faults
 told_write_failed told meant = (only_write told meant).0
 
-pub told_cut_report : {k : ℕ} {words : List (List ℕ)} {before now : Outside} → Told k words before now → k ≡ 6 → SaysCutReport before.left now.left before.written now.written
+pub told_cut_report : {k : ℕ} {before now : Outside} → Told k before now → k ≡ 6 → SaysCutReport before.left now.left before.written now.written
 told_cut_report told meant = (only_write told meant).1
 
-pub told_memory_line : {k : ℕ} {words : List (List ℕ)} {before now : Outside} → Told k words before now → k ≡ 7 → Wrote before now (codes "error memory\n")
+pub told_memory_line : {k : ℕ} {before now : Outside} → Told k before now → k ≡ 7 → Wrote before now (codes "error memory\n")
 unfolding error_line
-told_memory_line {k} {words} {before} {now} told meant = go told.outcome told.status told.explains
+told_memory_line {k} {before} {now} told meant = go told.outcome told.status told.explains
   where
-    go : (outcome : Result (Unit {0}) CommandFault) → k ≡ exit_status outcome → Explains outcome words before now → Wrote before now (error_line faults.Memory)
-    go (Err faults.Memory) is explains = explains.2
+    go : (outcome : Result (Unit {0}) CommandFault) → k ≡ exit_status outcome → Explains outcome before now → Wrote before now (error_line faults.Memory)
+    go (Err faults.Memory) is explains = explains.1
     go outcome is explains = absurd (omega (arith, meant, is))
 
-pub told_bad_turn : {k : ℕ} {words : List (List ℕ)} {before now : Outside} → Told k words before now → k ≡ 8
+pub told_bad_turn : {k : ℕ} {before now : Outside} → Told k before now → k ≡ 8
     → SaysBadTurn before.left now.left before.written now.written before.write_faults now.write_faults
 unfolding error_line
-told_bad_turn {k} {words} {before} {now} told meant = go told.outcome told.status told.explains
+told_bad_turn {k} {before} {now} told meant = go told.outcome told.status told.explains
   where
-    go : (outcome : Result (Unit {0}) CommandFault) → k ≡ exit_status outcome → Explains outcome words before now → SaysBadTurn before.left now.left before.written now.written before.write_faults now.write_faults
-    go (Err (faults.Schedule turn)) is explains = (turn.entry, turn.actor, explains.1, explains.2)
+    go : (outcome : Result (Unit {0}) CommandFault) → k ≡ exit_status outcome → Explains outcome before now → SaysBadTurn before.left now.left before.written now.written before.write_faults now.write_faults
+    go (Err (faults.Schedule turn)) is explains = (turn.entry, turn.actor, explains.0, explains.1)
     go outcome is explains = absurd (omega (arith, meant, is))
 
 -- what is known where the bytes are told
@@ -243,58 +230,58 @@ bad_or_run text c d entry actor one other bad defined =
     run_has_none (opening c) (order_of c) entry actor bad.named bad.bad (subst (λ (e : Scenario). IsDefined e (order_of e)) (same_scenario text d c other one) defined)
 
 -- where each of them comes
-pub told_refusal_where : {k : ℕ} {words : List (List ℕ)} {before now : Outside} → Told k words before now → (text : List ℕ) (line : ℕ) (reason : Reason) → is_replay words ≡ true → before.left ≡ Some text → Refuses text line reason
+pub told_refusal_where : {k : ℕ} {before now : Outside} → Told k before now → (text : List ℕ) (line : ℕ) (reason : Reason) → before.left ≡ Some text → Refuses text line reason
     → (k ≡ 3) ⊎ ((k ≡ 5) ⊎ (k ≡ 7))
-told_refusal_where {k} {words} {before} {now} told text line reason fits left refuses = go told.outcome told.status told.explains
+told_refusal_where {k} {before} {now} told text line reason left refuses = go told.outcome told.status told.explains
   where
-    go : (outcome : Result (Unit {0}) CommandFault) → k ≡ exit_status outcome → Explains outcome words before now → (k ≡ 3) ⊎ ((k ≡ 5) ⊎ (k ≡ 7))
-    go (Ok done) is explains = let said = if_some _ before.left text left explains.1 in absurd (said_or_wrong text said.1.0 line reason said.1.1 refuses)
-    go (Err faults.Words) is explains = absurd (false≢true (sym explains.0 ∙ fits))
+    go : (outcome : Result (Unit {0}) CommandFault) → k ≡ exit_status outcome → Explains outcome before now → (k ≡ 3) ⊎ ((k ≡ 5) ⊎ (k ≡ 7))
+    go (Ok done) is explains = let said = if_some _ before.left text left explains in absurd (said_or_wrong text said.1.0 line reason said.1.1 refuses)
+    go (Err faults.Words) is explains = absurd explains.0
     go (Err (faults.Scenario other why)) is explains = inl is
-    go (Err (faults.Limit quantity count)) is explains = let said = if_some _ before.left text left explains.1 in absurd (wrong_or_too_much text line reason quantity count refuses said.1)
+    go (Err (faults.Limit quantity count)) is explains = let said = if_some _ before.left text left explains.0 in absurd (wrong_or_too_much text line reason quantity count refuses said.1)
     go (Err faults.Read) is explains = inr (inl is)
-    go (Err faults.Write) is explains = let said = if_some _ before.left text left explains.2 in absurd (said_or_wrong text said.1.0 line reason said.1.1 refuses)
+    go (Err faults.Write) is explains = let said = if_some _ before.left text left explains.1 in absurd (said_or_wrong text said.1.0 line reason said.1.1 refuses)
     go (Err faults.Memory) is explains = inr (inr is)
-    go (Err (faults.Schedule turn)) is explains = let said = if_some _ before.left text left explains.1 in absurd (said_or_wrong text said.1.0 line reason said.1.1 refuses)
+    go (Err (faults.Schedule turn)) is explains = let said = if_some _ before.left text left explains.0 in absurd (said_or_wrong text said.1.0 line reason said.1.1 refuses)
 
-pub told_limit_where : {k : ℕ} {words : List (List ℕ)} {before now : Outside} → Told k words before now → (text : List ℕ) (quantity : Quantity) (count : ℕ) → is_replay words ≡ true → before.left ≡ Some text → Passes text quantity count
+pub told_limit_where : {k : ℕ} {before now : Outside} → Told k before now → (text : List ℕ) (quantity : Quantity) (count : ℕ) → before.left ≡ Some text → Passes text quantity count
     → (k ≡ 4) ⊎ ((k ≡ 5) ⊎ (k ≡ 7))
-told_limit_where {k} {words} {before} {now} told text quantity count fits left passes = go told.outcome told.status told.explains
+told_limit_where {k} {before} {now} told text quantity count left passes = go told.outcome told.status told.explains
   where
-    go : (outcome : Result (Unit {0}) CommandFault) → k ≡ exit_status outcome → Explains outcome words before now → (k ≡ 4) ⊎ ((k ≡ 5) ⊎ (k ≡ 7))
-    go (Ok done) is explains = let said = if_some _ before.left text left explains.1 in absurd (said_or_too_much text said.1.0 quantity count said.1.1 passes)
-    go (Err faults.Words) is explains = absurd (false≢true (sym explains.0 ∙ fits))
-    go (Err (faults.Scenario line reason)) is explains = let said = if_some _ before.left text left explains.1 in absurd (wrong_or_too_much text line reason quantity count said.1 passes)
+    go : (outcome : Result (Unit {0}) CommandFault) → k ≡ exit_status outcome → Explains outcome before now → (k ≡ 4) ⊎ ((k ≡ 5) ⊎ (k ≡ 7))
+    go (Ok done) is explains = let said = if_some _ before.left text left explains in absurd (said_or_too_much text said.1.0 quantity count said.1.1 passes)
+    go (Err faults.Words) is explains = absurd explains.0
+    go (Err (faults.Scenario line reason)) is explains = let said = if_some _ before.left text left explains.0 in absurd (wrong_or_too_much text line reason quantity count said.1 passes)
     go (Err (faults.Limit other many)) is explains = inl is
     go (Err faults.Read) is explains = inr (inl is)
-    go (Err faults.Write) is explains = let said = if_some _ before.left text left explains.2 in absurd (said_or_too_much text said.1.0 quantity count said.1.1 passes)
+    go (Err faults.Write) is explains = let said = if_some _ before.left text left explains.1 in absurd (said_or_too_much text said.1.0 quantity count said.1.1 passes)
     go (Err faults.Memory) is explains = inr (inr is)
-    go (Err (faults.Schedule turn)) is explains = let said = if_some _ before.left text left explains.1 in absurd (said_or_too_much text said.1.0 quantity count said.1.1 passes)
+    go (Err (faults.Schedule turn)) is explains = let said = if_some _ before.left text left explains.0 in absurd (said_or_too_much text said.1.0 quantity count said.1.1 passes)
 
-pub told_bad_turn_where : {k : ℕ} {words : List (List ℕ)} {before now : Outside} → Told k words before now → (text : List ℕ) (c : Scenario) (entry actor : ℕ) → is_replay words ≡ true → before.left ≡ Some text
+pub told_bad_turn_where : {k : ℕ} {before now : Outside} → Told k before now → (text : List ℕ) (c : Scenario) (entry actor : ℕ) → before.left ≡ Some text
     → Reads text c → IsFirstBad (opening c) (order_of c) entry actor → (k ≡ 8) ⊎ ((k ≡ 5) ⊎ (k ≡ 7))
-told_bad_turn_where {k} {words} {before} {now} told text c entry actor fits left reads bad = go told.outcome told.status told.explains
+told_bad_turn_where {k} {before} {now} told text c entry actor left reads bad = go told.outcome told.status told.explains
   where
-    go : (outcome : Result (Unit {0}) CommandFault) → k ≡ exit_status outcome → Explains outcome words before now → (k ≡ 8) ⊎ ((k ≡ 5) ⊎ (k ≡ 7))
-    go (Ok done) is explains = let said = if_some _ before.left text left explains.1 in absurd (bad_or_run text c said.1.0 entry actor reads said.1.1 bad said.1.2.0)
-    go (Err faults.Words) is explains = absurd (false≢true (sym explains.0 ∙ fits))
-    go (Err (faults.Scenario line reason)) is explains = let said = if_some _ before.left text left explains.1 in absurd (said_or_wrong text c line reason reads said.1)
-    go (Err (faults.Limit quantity count)) is explains = let said = if_some _ before.left text left explains.1 in absurd (said_or_too_much text c quantity count reads said.1)
+    go : (outcome : Result (Unit {0}) CommandFault) → k ≡ exit_status outcome → Explains outcome before now → (k ≡ 8) ⊎ ((k ≡ 5) ⊎ (k ≡ 7))
+    go (Ok done) is explains = let said = if_some _ before.left text left explains in absurd (bad_or_run text c said.1.0 entry actor reads said.1.1 bad said.1.2.0)
+    go (Err faults.Words) is explains = absurd explains.0
+    go (Err (faults.Scenario line reason)) is explains = let said = if_some _ before.left text left explains.0 in absurd (said_or_wrong text c line reason reads said.1)
+    go (Err (faults.Limit quantity count)) is explains = let said = if_some _ before.left text left explains.0 in absurd (said_or_too_much text c quantity count reads said.1)
     go (Err faults.Read) is explains = inr (inl is)
-    go (Err faults.Write) is explains = let said = if_some _ before.left text left explains.2 in absurd (bad_or_run text c said.1.0 entry actor reads said.1.1 bad said.1.2.0)
+    go (Err faults.Write) is explains = let said = if_some _ before.left text left explains.1 in absurd (bad_or_run text c said.1.0 entry actor reads said.1.1 bad said.1.2.0)
     go (Err faults.Memory) is explains = inr (inr is)
     go (Err (faults.Schedule turn)) is explains = inl is
 
-pub told_complete : {k : ℕ} {words : List (List ℕ)} {before now : Outside} → Told k words before now → (text : List ℕ) (c : Scenario) → is_replay words ≡ true → before.left ≡ Some text → Reads text c → IsDefined c (order_of c)
+pub told_complete : {k : ℕ} {before now : Outside} → Told k before now → (text : List ℕ) (c : Scenario) → before.left ≡ Some text → Reads text c → IsDefined c (order_of c)
     → (Rose before.read_faults now.read_faults → ⊥) → (Rose before.write_faults now.write_faults → ⊥) → (k ≡ 0) ⊎ (k ≡ 7)
-told_complete {k} {words} {before} {now} told text c fits left reads defined no_read no_write = go told.outcome told.status told.explains
+told_complete {k} {before} {now} told text c left reads defined no_read no_write = go told.outcome told.status told.explains
   where
-    go : (outcome : Result (Unit {0}) CommandFault) → k ≡ exit_status outcome → Explains outcome words before now → (k ≡ 0) ⊎ (k ≡ 7)
+    go : (outcome : Result (Unit {0}) CommandFault) → k ≡ exit_status outcome → Explains outcome before now → (k ≡ 0) ⊎ (k ≡ 7)
     go (Ok done) is explains = inl is
-    go (Err faults.Words) is explains = absurd (false≢true (sym explains.0 ∙ fits))
-    go (Err (faults.Scenario line reason)) is explains = let said = if_some _ before.left text left explains.1 in absurd (said_or_wrong text c line reason reads said.1)
-    go (Err (faults.Limit quantity count)) is explains = let said = if_some _ before.left text left explains.1 in absurd (said_or_too_much text c quantity count reads said.1)
-    go (Err faults.Read) is explains = absurd (no_read explains.1.1)
-    go (Err faults.Write) is explains = absurd (no_write explains.1)
+    go (Err faults.Words) is explains = absurd explains.0
+    go (Err (faults.Scenario line reason)) is explains = let said = if_some _ before.left text left explains.0 in absurd (said_or_wrong text c line reason reads said.1)
+    go (Err (faults.Limit quantity count)) is explains = let said = if_some _ before.left text left explains.0 in absurd (said_or_too_much text c quantity count reads said.1)
+    go (Err faults.Read) is explains = absurd (no_read explains.0.1)
+    go (Err faults.Write) is explains = absurd (no_write explains.0)
     go (Err faults.Memory) is explains = inr is
-    go (Err (faults.Schedule turn)) is explains = let said = if_some _ before.left text left explains.1 in absurd (bad_or_run text said.1.0 c turn.entry turn.actor said.1.1 reads said.1.2 defined)
+    go (Err (faults.Schedule turn)) is explains = let said = if_some _ before.left text left explains.0 in absurd (bad_or_run text said.1.0 c turn.entry turn.actor said.1.1 reads said.1.2 defined)

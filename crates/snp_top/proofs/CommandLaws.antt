@@ -107,7 +107,7 @@ run_cut k before now is rose reads = record {
 }
 
 -- the text wasn't read, or says no scenario, or there was no memory: as of a replay
-run_refused : (k : ℕ) (before now : Outside) → Told k (codes "replay" ∷ []) before now → k ≢ 0 → k ≢ 2 → k ≢ 6 → k ≢ 8 → (k ≤ 8) × (k ≢ 1)
+run_refused : (k : ℕ) (before now : Outside) → Told k before now → k ≢ 0 → k ≢ 2 → k ≢ 6 → k ≢ 8 → (k ≤ 8) × (k ≢ 1)
     → ((text : List ℕ) (c : Scenario) → before.left ≡ Some text → Reads text c → (Rose before.read_faults now.read_faults → ⊥) → k ≡ 7) → RunTold k before now
 run_refused k before now told zero two six eight between complete = record {
   read = λ e. absurd (zero e);
@@ -119,9 +119,9 @@ run_refused k before now told zero two six eight between complete = record {
   read_stopped = told_read_stopped told;
   read_line = told_read_line told;
   refused = told_refusal told;
-  refused_where = λ text line reason left refuses. told_refusal_where told text line reason refl left refuses;
+  refused_where = λ text line reason left refuses. told_refusal_where told text line reason left refuses;
   passed = told_limit told;
-  passed_where = λ text quantity count left passes. told_limit_where told text quantity count refl left passes;
+  passed_where = λ text quantity count left passes. told_limit_where told text quantity count left passes;
   write_failed = λ e. absurd (six e);
   cut = λ e. absurd (six e);
   memory_line = told_memory_line told;
@@ -135,19 +135,19 @@ run_told (Err faults.Write) k before now is explains = run_cut k before now is e
 run_told (Err faults.Words) k before now is explains = absurd explains.1
 run_told (Err (faults.Schedule turn)) k before now is explains = absurd explains.0
 run_told (Err (faults.Scenario line reason)) k before now is explains =
-    run_refused k before now (record { outcome = Err (faults.Scenario line reason); status = is; explains = (refl, explains.1, explains.2) })
+    run_refused k before now (record { outcome = Err (faults.Scenario line reason); status = is; explains = (explains.1, explains.2) })
     (λ e. absurd (omega (arith, is, e))) (λ e. absurd (omega (arith, is, e))) (λ e. absurd (omega (arith, is, e))) (λ e. absurd (omega (arith, is, e))) (omega (arith, is), λ e. absurd (omega (arith, is, e)))
     (λ text c left says no_read. let said = if_some _ before.left text left explains.1 in absurd (said_or_wrong text c line reason says said.1))
 run_told (Err (faults.Limit quantity count)) k before now is explains =
-    run_refused k before now (record { outcome = Err (faults.Limit quantity count); status = is; explains = (refl, explains.1, explains.2) })
+    run_refused k before now (record { outcome = Err (faults.Limit quantity count); status = is; explains = (explains.1, explains.2) })
     (λ e. absurd (omega (arith, is, e))) (λ e. absurd (omega (arith, is, e))) (λ e. absurd (omega (arith, is, e))) (λ e. absurd (omega (arith, is, e))) (omega (arith, is), λ e. absurd (omega (arith, is, e)))
     (λ text c left says no_read. let said = if_some _ before.left text left explains.1 in absurd (said_or_too_much text c quantity count says said.1))
 run_told (Err faults.Read) k before now is explains =
-    run_refused k before now (record { outcome = Err faults.Read; status = is; explains = (refl, explains.1, explains.2) })
+    run_refused k before now (record { outcome = Err faults.Read; status = is; explains = (explains.1, explains.2) })
     (λ e. absurd (omega (arith, is, e))) (λ e. absurd (omega (arith, is, e))) (λ e. absurd (omega (arith, is, e))) (λ e. absurd (omega (arith, is, e))) (omega (arith, is), λ e. absurd (omega (arith, is, e)))
     (λ text c left says no_read. absurd (no_read explains.1.1))
 run_told (Err faults.Memory) k before now is explains =
-    run_refused k before now (record { outcome = Err faults.Memory; status = is; explains = (refl, explains.1, explains.2) })
+    run_refused k before now (record { outcome = Err faults.Memory; status = is; explains = (explains.1, explains.2) })
     (λ e. absurd (omega (arith, is, e))) (λ e. absurd (omega (arith, is, e))) (λ e. absurd (omega (arith, is, e))) (λ e. absurd (omega (arith, is, e))) (omega (arith, is), λ e. absurd (omega (arith, is, e)))
     (λ text c left says no_read. is)
 

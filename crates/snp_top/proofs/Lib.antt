@@ -1,8 +1,12 @@
 pub mod BatchLaws
 pub mod CauseLaws
 pub mod CommandLaws
+pub mod DrawLaws
+pub mod DrillLaws
 pub mod MeasureLaws
+pub mod PickLaws
 pub mod Pieces
 pub mod ReplayLaws
 pub mod ScheduleLaws
 pub mod WholeLaws
+pub mod WordLaws

@@ -1,12 +1,9 @@
 -- What the outcome of `measure` tells, clause by clause.
 use Rattle.std.proofs.Common.{◌≡◌, ℕ, ◌<◌, ◌≤◌, ◌⊎◌, ◌↔◌, ◌≢◌, Bool, ◌||◌, true, false, List, [], length, Option, None, Some, IfSome, OnOk, Result, Ok, Err, refl, sym, ap, ◌∙◌, subst, arith, inl, inr}
-use Rattle.std.proofs.lemmas.Bool.{false≢true, or_right}
-use Rattle.std.proofs.lemmas.Slice.Eq.{bytes_eq-Decides}
-use Rattle.std.specs.Prelude.{◌==◌, ◌&&◌, bytes_eq, codes, slice_index, slice_index_or}
+use Rattle.std.specs.Prelude.{codes}
 use Rattle.snp_model.specs.declared.reading.Quantity.{Quantity}
 use Rattle.snp_model.specs.declared.reading.Quantity.TheVariants.{Bytes}
 use Rattle.snp_model.specs.declared.reading.Reason.{Reason}
-use Rattle.snp_model.specs.CommandLine.{are_words, is_measure, is_replay}
 use Rattle.snp_model.specs.Limits.{most}
 use Rattle.snp_model.specs.MeasureText.{RefusesPages, SaysPages, digest_line}
 use Rattle.snp_model.specs.Measurement.{LaunchedPage, measure}
@@ -19,7 +16,6 @@ use Rattle.snp_top.specs.Faults.{error_line, exit_status}
 use Rattle.snp_top.specs.Input.{HasInputCause, TakesAtMost}
 use Rattle.snp_top.specs.Measures.{ExplainsMeasure, HasMeasureCause, SaysCutDigest, SaysDigest, SaysPageRefusal, WritesDigest}
 use Rattle.snp_top.specs.Replays.{IsRead, ReadsSome, ReadsText}
-use Rattle.snp_top.specs.Runs.{is_run}
 use Rattle.snp_top.proofs.BatchLaws.{ok_told}
 use Rattle.snp_top.proofs.CauseLaws.{passes_long, too_long}
 
@@ -237,33 +233,3 @@ measured_complete {k} {before} {now} told text pages left says no_read no_write 
     go (Err faults.Write) is explains = absurd (no_write explains.0)
     go (Err faults.Memory) is explains = inr is
     go (Err (faults.Schedule turn)) is explains = absurd explains.0
-
--- words are those of one command
-apart : (alone : Bool) (w name other : List ℕ) → (slice_index name 0 ≡ slice_index other 0 → ⊥) → (alone && bytes_eq w name) ≡ true → (alone && bytes_eq w other) ≡ true → ⊥
-apart false w name other differ one two = false≢true one
-apart true w name other differ one two =
-    differ (ap (λ (bytes : List ℕ). slice_index bytes 0) (sym ((bytes_eq-Decides w name).0 one) ∙ (bytes_eq-Decides w other).0 two))
-
-pub asked_once : (words : List (List ℕ)) → is_replay words ≡ true → is_measure words ≡ true → ⊥
-asked_once words one other = apart (length words == 1) (slice_index_or words 0 []) (codes "replay") (codes "measure") (λ e. absurd (omega (arith, e))) one other
-
-pub run_once : (words : List (List ℕ)) → is_run words ≡ true → is_measure words ≡ true → ⊥
-run_once words one other = apart (length words == 1) (slice_index_or words 0 []) (codes "run") (codes "measure") (λ e. absurd (omega (arith, e))) one other
-
-pub other_asked : (words : List (List ℕ)) → is_measure words ≡ true → is_measure words ≡ false → ⊥
-other_asked words one other = false≢true (sym other ∙ one)
-
--- words that are `measure` are those of a command
-pub some_words : (words : List (List ℕ)) → is_measure words ≡ true → are_words words ≡ false → ⊥
-some_words words asked none = false≢true (sym none ∙ or_right (is_replay words) (is_measure words) asked)
-
--- others are where they are `replay`
-pub asked_alone : {k : ℕ} (words : List (List ℕ)) → is_measure words ≡ false → ((k ≡ 2) ↔ (is_replay words ≡ false)) → (k ≡ 2) ↔ (are_words words ≡ false)
-asked_alone {k} words other refused = subst (λ (b : Bool). (k ≡ 2) ↔ ((is_replay words || b) ≡ false)) (sym other) (λ two. or_none (is_replay words) (refused.0 two), λ none. refused.1 (none_left (is_replay words) none))
-  where
-    or_none : (b : Bool) → b ≡ false → (b || false) ≡ false
-    or_none b e = ap (λ (x : Bool). x || false) e
-
-    none_left : (b : Bool) → (b || false) ≡ false → b ≡ false
-    none_left true e = absurd (false≢true (sym e))
-    none_left false e = refl

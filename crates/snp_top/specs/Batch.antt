@@ -1,9 +1,8 @@
 -- What the program answers, and what it then has read and written. This project's own.
-use Rattle.std.specs.Prelude.{◌≡◌, ℕ, ◌⊎◌, true, false, List, Option, IfSome, Result, Ok, Err}
+use Rattle.std.specs.Prelude.{◌≡◌, ℕ, ◌⊎◌, List, Option, IfSome, Result, Ok, Err}
 use Rattle.snp_model.specs.declared.reading.Quantity.{Quantity}
 use Rattle.snp_model.specs.declared.reading.Reason.{Reason}
 use Rattle.snp_model.specs.declared.scenario.Scenario.{Scenario}
-use Rattle.snp_model.specs.CommandLine.{is_replay}
 use Rattle.snp_model.specs.Ending.{report_of}
 use Rattle.snp_model.specs.Opening.{opening}
 use Rattle.snp_model.specs.Outside.{Adds, AddsPrefix, Rose}
@@ -63,12 +62,9 @@ pub record Outside : Type 0 where
 abbrev pub Wrote : Outside → Outside → List ℕ → Type 0
 Wrote before now line = WritesLine before.written now.written before.write_faults now.write_faults line
 
--- what the outcome of a command tells, of its words and of the outside before and after
-abbrev pub Explains : Result (Unit {0}) CommandFault → List (List ℕ) → Outside → Outside → Type 0
-Explains (Ok done) words before now =
-    (is_replay words ≡ true) × ReadsText before.left now.left (SaysOne (λ c. IsDefined c (order_of c) × Adds before.written now.written (report_of c (order_of c))))
-Explains (Err faults.Words) words before now = (is_replay words ≡ false) × Wrote before now (error_line faults.Words)
-Explains (Err faults.Write) words before now =
-    (is_replay words ≡ true) × Rose before.write_faults now.write_faults × SaysCutReport before.left now.left before.written now.written
-Explains (Err fault) words before now =
-    (is_replay words ≡ true) × HasReplayCause before.left now.left before.read_faults now.read_faults fault × Wrote before now (error_line fault)
+-- what the outcome of `replay` tells, of the outside before and after
+abbrev pub Explains : Result (Unit {0}) CommandFault → Outside → Outside → Type 0
+Explains (Ok done) before now = ReadsText before.left now.left (SaysOne (λ c. IsDefined c (order_of c) × Adds before.written now.written (report_of c (order_of c))))
+Explains (Err faults.Write) before now = Rose before.write_faults now.write_faults × SaysCutReport before.left now.left before.written now.written
+Explains (Err fault) before now =
+    HasReplayCause before.left now.left before.read_faults now.read_faults fault × Wrote before now (error_line fault)

@@ -16,6 +16,7 @@ use Rattle.snp_top.specs.Batch.{Outside, WritesLine, Wrote}
 use Rattle.snp_top.specs.Faults.{error_line}
 use Rattle.snp_top.specs.Fleets.{IsWhole, Kept}
 use Rattle.snp_top.specs.Replays.{HasReplayCause, ReadsText, SaysOne}
+use Rattle.snp_top.specs.Words.{takes_text}
 
 -- whether the words are `run` alone
 abbrev pub is_run : List (List ℕ) → Bool
@@ -24,6 +25,10 @@ is_run words = is_alone (codes "run") words
 -- whether they are those of a command that reads a scenario
 abbrev pub reads_scenario : List (List ℕ) → Bool
 reads_scenario words = is_run words || is_replay words
+
+-- whether they are those of a command that reads a text
+abbrev pub reads_text : List (List ℕ) → Bool
+reads_text words = is_run words || takes_text words
 
 -- whether they are those of any command
 abbrev pub are_commands : List (List ℕ) → Bool

@@ -1,7 +1,7 @@
 //! The program's commands, from its words to its exit status.
-ghost use Rattle.std.specs.Prelude.{◌≡◌, ℕ, ◌+◌, ◌≤◌, ◌<◌, ◌≢◌, ◌⊎◌, ◌↔◌, ◌^◌, true, false, List, Some, length, map, codes, bytes_eq, string_bytes, IfSome};
+ghost use Rattle.std.specs.Prelude.{◌≡◌, ℕ, ◌+◌, ◌≤◌, ◌<◌, ◌≢◌, ◌⊎◌, ◌↔◌, ◌^◌, true, false, List, Some, length, map, codes, string_bytes, IfSome};
 ghost use Rattle.snp_model.specs.declared.scenario.Scenario.{Scenario};
-ghost use Rattle.snp_model.specs.CommandLine.{are_words, is_alone, is_measure, is_replay};
+ghost use Rattle.snp_model.specs.CommandLine.{are_words, drill_number, gen_number, is_measure, is_replay};
 ghost use Rattle.snp_model.specs.Ending.{report_of};
 ghost use Rattle.snp_model.specs.Premises.{AreLegal};
 ghost use Rattle.snp_model.specs.Limits.{most};
@@ -13,53 +13,31 @@ ghost use Rattle.snp_model.specs.Reading.{Passes, Reads, Refuses, order_of};
 ghost use Rattle.snp_model.specs.Report.{report_text};
 ghost use Rattle.snp_model.specs.Run.{IsDefined, IsOrdered};
 ghost use Rattle.snp_top.specs.Batch.{Explains, ForScenario, ReportsTo, SaysBadTurn, SaysCutReport, SaysLimit, SaysRefusal, SaysRun, WritesLine};
+ghost use Rattle.snp_top.specs.Drills.{CutsDrill, CutsScenario, WritesDrill, WritesScenario};
 ghost use Rattle.snp_top.specs.Faults.{error_line, exit_status};
 ghost use Rattle.snp_top.specs.Input.{TakesAtMost};
 ghost use Rattle.snp_top.specs.Measures.{SaysCutDigest, SaysPageRefusal, WritesDigest};
 ghost use Rattle.snp_top.specs.Replays.{IsRead};
 ghost use Rattle.snp_top.specs.Schedule.{IsFirstBad};
+ghost use Rattle.snp_top.specs.Words.{AsksFor, takes_text};
 
+use crate::drilling::{carry_out_drill, carry_out_gen};
 use crate::errors::put_error;
 use crate::fault::CommandFault;
 use crate::measuring::carry_out_measure;
 use crate::replay::{Played, replay};
+use crate::words::{Asked, read_words};
 use outside_port::{Sink, Source, write_all};
 use report_text::write_report;
 use snp_model::{Quantity, Reason};
 use std::alloc::Global;
 
-// Whether the words are this one alone.
-pub(crate) fn is_alone(name: &[u8], words: &Vec<String>) -> bool
-    ensures { result ≡ is_alone name.now (map string_bytes words.now.items) }
-{
-    words.len() == 1 && is_word(words[0].as_bytes(), name)
-}
-
-// Whether the words are `replay` alone.
-fn is_replay(words: &Vec<String>) -> bool
-    ensures { result ≡ is_replay (map string_bytes words.now.items) }
-{
-    is_alone(b"replay", words)
-}
-
-// Whether the words are `measure` alone.
-fn is_measure(words: &Vec<String>) -> bool
-    ensures { result ≡ is_measure (map string_bytes words.now.items) }
-{
-    is_alone(b"measure", words)
-}
-
-pub(crate) fn is_word(word: &[u8], name: &[u8]) -> bool
-    ensures { result ≡ bytes_eq word.now name.now }
-{
-    word == name
-}
-
 /// Carries out the command that the words name, reading from the source and writing to the sink, and gives the exit
-/// status: 0 the report or the digest was written; 2 the words are no command; 3 a line of the text is refused; 4 the text passes a
-/// limit; 5 the source failed; 6 the sink failed under the report or the digest; 7 want of memory, which may come at any growth before
-/// the first byte is written; 8 the schedule names an actor that is missing or finished. With a status but 0 and 6 one
-/// error line is written. Where a source or a sink doesn't tell its bytes, nothing is said of them.
+/// status: 0 what the command writes was written, a report, a digest, a scenario or the lines of a drill; 2 the words are no
+/// command; 3 a line of the text is refused; 4 the text passes a limit; 5 the source failed; 6 the sink failed under what the
+/// command writes; 7 want of memory, which may come at any growth before the first byte is written; 8 the schedule names an
+/// actor that is missing or finished. With a status but 0 and 6 one error line is written. Where a source or a sink doesn't
+/// tell its bytes, nothing is said of them.
 pub fn snp_batch<S: Source, K: Sink>(
     alloc: Global,
     words: &Vec<String>,
@@ -67,7 +45,7 @@ pub fn snp_batch<S: Source, K: Sink>(
     sink: &mut K,
 ) -> u8
     // The headline of `replay`: the text was read to its end, and it says a scenario whose schedule makes a run.
-    ensures source_read { result ≡ 0 → IsRead (S.left source.old) (S.left source.new) }
+    ensures source_read { result ≡ 0 → takes_text (map string_bytes words.now.items) ≡ true → IsRead (S.left source.old) (S.left source.new) }
     ensures scenario_read { result ≡ 0 → is_replay (map string_bytes words.now.items) ≡ true → SaysRun (S.left source.old) }
 
     // The report of that run is written, and nothing else.
@@ -82,6 +60,13 @@ pub fn snp_batch<S: Source, K: Sink>(
 
     // `measure`: the text says pages, and the line that tells their launch digest is written, and nothing else.
     ensures digest_written { result ≡ 0 → is_measure (map string_bytes words.now.items) ≡ true → WritesDigest (S.left source.old) (S.left source.new) (K.written sink.old) (K.written sink.new) }
+
+    // `gen` and `drill`: no text is read. The scenario of the number is written, or the lines that tell of its drill under the one
+    // schedule that the number picks, and nothing else.
+    ensures scenario_drawn { (number : ℕ) → result ≡ 0 → gen_number (map string_bytes words.now.items) ≡ Some number → WritesScenario number (K.written sink.old) (K.written sink.new) }
+    ensures drill_written { (number : ℕ) → result ≡ 0 → drill_number (map string_bytes words.now.items) ≡ Some number → WritesDrill number (K.written sink.old) (K.written sink.new) }
+    ensures source_unread { (number : ℕ) → AsksFor number (map string_bytes words.now.items) → source.new ≡ source.old }
+    ensures drawn_statuses { (number : ℕ) → AsksFor number (map string_bytes words.now.items) → (result ≡ 0) ⊎ ((result ≡ 6) ⊎ (result ≡ 7)) }
 
     // There are no other statuses than 0 and 2 to 8.
     ensures statuses { (result ≤ 8) × (result ≢ 1) }
@@ -119,10 +104,12 @@ pub fn snp_batch<S: Source, K: Sink>(
         → Reads text c → IsFirstBad (opening c) (order_of c) entry actor → (result ≡ 8) ⊎ ((result ≡ 5) ⊎ (result ≡ 7)) }
     ensures pages_have_no_schedule { result ≡ 8 → is_measure (map string_bytes words.now.items) ≡ false }
 
-    // The sink may fail under the report, or under the digest.
+    // The sink may fail under what the command writes.
     ensures write_failed { result ≡ 6 → Rose (K.faults sink.old) (K.faults sink.new) }
     ensures report_cut { result ≡ 6 → is_replay (map string_bytes words.now.items) ≡ true → SaysCutReport (S.left source.old) (S.left source.new) (K.written sink.old) (K.written sink.new) }
     ensures digest_cut { result ≡ 6 → is_measure (map string_bytes words.now.items) ≡ true → SaysCutDigest (S.left source.old) (S.left source.new) (K.written sink.old) (K.written sink.new) }
+    ensures scenario_cut { (number : ℕ) → result ≡ 6 → gen_number (map string_bytes words.now.items) ≡ Some number → CutsScenario number (K.written sink.old) (K.written sink.new) }
+    ensures drill_cut { (number : ℕ) → result ≡ 6 → drill_number (map string_bytes words.now.items) ≡ Some number → CutsDrill number (K.written sink.old) (K.written sink.new) }
 
     // Want of memory is free.
     ensures memory_line { result ≡ 7 → WritesLine (K.written sink.old) (K.written sink.new) (K.faults sink.old) (K.faults sink.new) (codes "error memory\n") }
@@ -130,7 +117,7 @@ pub fn snp_batch<S: Source, K: Sink>(
     // The counts of faults never fall.
     ensures later { (S.faults source.old ≤ S.faults source.new) × (K.faults sink.old ≤ K.faults sink.new) }
 
-    // Nothing else keeps the report from being written, nor the digest.
+    // Nothing else keeps the report from being written, nor the digest, nor what a number determines.
     ensures complete { (text : List ℕ) (c : Scenario) → is_replay (map string_bytes words.now.items) ≡ true → S.left source.old ≡ Some text
         → Reads text c → IsDefined c (order_of c)
         → (Rose (S.faults source.old) (S.faults source.new) → ⊥) → (Rose (K.faults sink.old) (K.faults sink.new) → ⊥)
@@ -139,11 +126,14 @@ pub fn snp_batch<S: Source, K: Sink>(
         → SaysPages text pages
         → (Rose (S.faults source.old) (S.faults source.new) → ⊥) → (Rose (K.faults sink.old) (K.faults sink.new) → ⊥)
         → (result ≡ 0) ⊎ (result ≡ 7) }
+    ensures drawn_complete { (number : ℕ) → AsksFor number (map string_bytes words.now.items) → (Rose (K.faults sink.old) (K.faults sink.new) → ⊥) → (result ≡ 0) ⊎ (result ≡ 7) }
 {
-    if is_measure(words) {
-        exit_status(carry_out_measure(alloc, source, sink))
-    } else {
-        exit_status(carry_out(alloc, words, source, sink))
+    match read_words(words) {
+        None => exit_status(Err(refuse(CommandFault::Words, sink))),
+        Some(Asked::Replay) => exit_status(carry_out_replay(alloc, source, sink)),
+        Some(Asked::Measure) => exit_status(carry_out_measure(alloc, source, sink)),
+        Some(Asked::Gen(number)) => exit_status(carry_out_gen(alloc, number, sink)),
+        Some(Asked::Drill(number)) => exit_status(carry_out_drill(alloc, number, sink)),
     }
 }
 
@@ -157,23 +147,18 @@ pub(crate) fn exit_status(outcome: Result<(), CommandFault>) -> u8
     }
 }
 
-// Carries `replay` out, if it is named.
-fn carry_out<S: Source, K: Sink>(
+// Carries `replay` out.
+fn carry_out_replay<S: Source, K: Sink>(
     alloc: Global,
-    words: &Vec<String>,
     source: &mut S,
     sink: &mut K,
 ) -> Result<(), CommandFault>
-    ensures explained { Explains result (map string_bytes words.now.items)
+    ensures explained { Explains result
         (record { left = S.left source.old; read_faults = S.faults source.old; written = K.written sink.old; write_faults = K.faults sink.old })
         (record { left = S.left source.new; read_faults = S.faults source.new; written = K.written sink.new; write_faults = K.faults sink.new }) }
     ensures taken { TakesAtMost (most Quantity.Bytes + 1) (S.left source.old) (S.left source.new) }
     ensures later { (S.faults source.old ≤ S.faults source.new) × (K.faults sink.old ≤ K.faults sink.new) }
-    ensures untouched { is_replay (map string_bytes words.now.items) ≡ false → source.new ≡ source.old }
 {
-    if !is_replay(words) {
-        return Err(refuse(CommandFault::Words, sink));
-    }
     match replay(alloc, source) {
         Ok(played) => report(&played, sink),
         Err(fault) => Err(refuse(fault, sink)),

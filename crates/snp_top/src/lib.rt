@@ -2,6 +2,9 @@
 #![tactic(auto)]
 
 pub mod batch;
+#[cfg(test)]
+mod drill_tests;
+mod drilling;
 mod errors;
 pub mod fault;
 pub mod fleet;
@@ -9,8 +12,10 @@ pub mod hashing;
 #[cfg(test)]
 mod hashing_tests;
 pub mod input;
+pub mod laws;
 pub mod locked_fleet;
 mod measuring;
+mod picking;
 pub mod program;
 pub mod replay;
 pub mod run;
@@ -19,3 +24,4 @@ mod run_tests;
 pub mod schedule;
 #[cfg(test)]
 mod tests;
+mod words;

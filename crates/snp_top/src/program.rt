@@ -1,7 +1,7 @@
 //! The program's commands, those that need threads among them, from its words to its exit status.
 ghost use Rattle.std.specs.Prelude.{◌≡◌, ℕ, ◌+◌, ◌≤◌, ◌<◌, ◌≢◌, ◌⊎◌, ◌↔◌, true, false, List, Some, IfSome, OnOk, length, map, codes, string_bytes};
 ghost use Rattle.snp_model.specs.declared.scenario.Scenario.{Scenario};
-ghost use Rattle.snp_model.specs.CommandLine.{is_measure, is_replay};
+ghost use Rattle.snp_model.specs.CommandLine.{drill_number, gen_number, is_measure, is_replay};
 ghost use Rattle.snp_model.specs.Limits.{most};
 ghost use Rattle.snp_model.specs.MeasureText.{RefusesPages, SaysPages};
 ghost use Rattle.snp_model.specs.Measurement.{LaunchedPage};
@@ -10,17 +10,20 @@ ghost use Rattle.snp_model.specs.Outside.{Adds, AddsPrefix, Rose};
 ghost use Rattle.snp_model.specs.Reading.{Passes, Reads, Refuses, order_of};
 ghost use Rattle.snp_model.specs.Run.{IsDefined};
 ghost use Rattle.snp_top.specs.Batch.{SaysBadTurn, SaysLimit, SaysRefusal, WritesLine};
+ghost use Rattle.snp_top.specs.Drills.{CutsDrill, CutsScenario, WritesDrill, WritesScenario};
 ghost use Rattle.snp_top.specs.Input.{TakesAtMost};
 ghost use Rattle.snp_top.specs.Measures.{SaysCutDigest, SaysPageRefusal, WritesDigest};
 ghost use Rattle.snp_top.specs.Replays.{IsRead, ReadsText, SaysOne};
-ghost use Rattle.snp_top.specs.Runs.{ExplainsRun, IsReported, ReportsKept, are_commands, is_run, reads_scenario};
+ghost use Rattle.snp_top.specs.Runs.{ExplainsRun, IsReported, ReportsKept, are_commands, is_run, reads_scenario, reads_text};
 ghost use Rattle.snp_top.specs.Schedule.{IsFirstBad};
+ghost use Rattle.snp_top.specs.Words.{AsksFor};
 
-use crate::batch::{exit_status, is_alone, refuse, snp_batch};
+use crate::batch::{exit_status, refuse, snp_batch};
 use crate::fault::CommandFault;
 use crate::fleet::Fleet;
 use crate::replay::read;
 use crate::run::run;
+use crate::words::is_alone;
 use outside_port::{Gate, Sink, Source};
 use snp_model::{Quantity, Reason};
 use std::alloc::Global;
@@ -47,9 +50,9 @@ pub fn snp_main<S: Source, K: Sink, G: Gate + Sync, F: Fleet, R: Threads + Wait 
     gate: &G,
     fleet: &mut F,
 ) -> u8
-    // The headline, but for `measure`: the text was read to its end, and it says a scenario. The report of one run of it
+    // The headline of `replay` and `run`: the text was read to its end, and it says a scenario. The report of one run of it
     // is written, and nothing else. The schedule of that run is that of the order lines, or, under `run`, one that finishes every actor.
-    ensures source_read { result ≡ 0 → IsRead (S.left source.old) (S.left source.new) }
+    ensures source_read { result ≡ 0 → reads_text (map string_bytes words.now.items) ≡ true → IsRead (S.left source.old) (S.left source.new) }
     ensures reported { result ≡ 0 → reads_scenario (map string_bytes words.now.items) ≡ true → IfSome (S.left source.old)
         (SaysOne (λ c. IsReported (is_run (map string_bytes words.now.items)) c (Adds (K.written sink.old) (K.written sink.new)))) }
 
@@ -59,6 +62,13 @@ pub fn snp_main<S: Source, K: Sink, G: Gate + Sync, F: Fleet, R: Threads + Wait 
 
     // Under `measure` the text says pages, and the line that tells their launch digest is written, and nothing else.
     ensures digest_written { result ≡ 0 → is_measure (map string_bytes words.now.items) ≡ true → WritesDigest (S.left source.old) (S.left source.new) (K.written sink.old) (K.written sink.new) }
+
+    // Under `gen` and `drill` no text is read. The scenario of the number is written, or the lines that tell of its drill under
+    // the one schedule that the number picks, and nothing else.
+    ensures scenario_drawn { (number : ℕ) → result ≡ 0 → gen_number (map string_bytes words.now.items) ≡ Some number → WritesScenario number (K.written sink.old) (K.written sink.new) }
+    ensures drill_written { (number : ℕ) → result ≡ 0 → drill_number (map string_bytes words.now.items) ≡ Some number → WritesDrill number (K.written sink.old) (K.written sink.new) }
+    ensures source_unread { (number : ℕ) → AsksFor number (map string_bytes words.now.items) → source.new ≡ source.old }
+    ensures drawn_statuses { (number : ℕ) → AsksFor number (map string_bytes words.now.items) → (result ≡ 0) ⊎ ((result ≡ 6) ⊎ (result ≡ 7)) }
 
     // There are no other statuses than 0 and 2 to 8.
     ensures statuses { (result ≤ 8) × (result ≢ 1) }
@@ -98,11 +108,13 @@ pub fn snp_main<S: Source, K: Sink, G: Gate + Sync, F: Fleet, R: Threads + Wait 
     ensures schedule_refused_where { (text : List ℕ) (c : Scenario) (entry actor : ℕ) → is_replay (map string_bytes words.now.items) ≡ true → S.left source.old ≡ Some text
         → Reads text c → IsFirstBad (opening c) (order_of c) entry actor → (result ≡ 8) ⊎ ((result ≡ 5) ⊎ (result ≡ 7)) }
 
-    // The sink may fail under the report, or under the digest.
+    // The sink may fail under what the command writes.
     ensures write_failed { result ≡ 6 → Rose (K.faults sink.old) (K.faults sink.new) }
     ensures report_cut { result ≡ 6 → reads_scenario (map string_bytes words.now.items) ≡ true → ReadsText (S.left source.old) (S.left source.new)
         (SaysOne (λ c. IsReported (is_run (map string_bytes words.now.items)) c (AddsPrefix (K.written sink.old) (K.written sink.new)))) }
     ensures digest_cut { result ≡ 6 → is_measure (map string_bytes words.now.items) ≡ true → SaysCutDigest (S.left source.old) (S.left source.new) (K.written sink.old) (K.written sink.new) }
+    ensures scenario_cut { (number : ℕ) → result ≡ 6 → gen_number (map string_bytes words.now.items) ≡ Some number → CutsScenario number (K.written sink.old) (K.written sink.new) }
+    ensures drill_cut { (number : ℕ) → result ≡ 6 → drill_number (map string_bytes words.now.items) ≡ Some number → CutsDrill number (K.written sink.old) (K.written sink.new) }
 
     // Want of memory is free.
     ensures memory_line { result ≡ 7 → WritesLine (K.written sink.old) (K.written sink.new) (K.faults sink.old) (K.faults sink.new) (codes "error memory\n") }
@@ -122,11 +134,14 @@ pub fn snp_main<S: Source, K: Sink, G: Gate + Sync, F: Fleet, R: Threads + Wait 
         → (Rose (S.faults source.old) (S.faults source.new) → ⊥) → (Rose (K.faults sink.old) (K.faults sink.new) → ⊥)
         → (result ≡ 0) ⊎ (result ≡ 7) }
 
-    // nor the digest of pages.
+    // nor the digest of pages,
     ensures digest_complete { (text : List ℕ) (pages : List LaunchedPage) → is_measure (map string_bytes words.now.items) ≡ true → S.left source.old ≡ Some text
         → SaysPages text pages
         → (Rose (S.faults source.old) (S.faults source.new) → ⊥) → (Rose (K.faults sink.old) (K.faults sink.new) → ⊥)
         → (result ≡ 0) ⊎ (result ≡ 7) }
+
+    // nor what a number determines.
+    ensures drawn_complete { (number : ℕ) → AsksFor number (map string_bytes words.now.items) → (Rose (K.faults sink.old) (K.faults sink.new) → ⊥) → (result ≡ 0) ⊎ (result ≡ 7) }
 {
     if is_run(words) {
         exit_status(carry_out_run(rt, alloc, source, sink, gate, fleet))
