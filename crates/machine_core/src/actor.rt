@@ -189,6 +189,7 @@ impl ActorState {
     }
 
     // One more deed of the open attempt.
+    #[inline(always)]
     fn keep(&mut self, deed: Deed)
         requires role { IsPagingRole self.old.role }
         requires unfinished { self.old.item < length self.old.script }
@@ -223,6 +224,7 @@ impl ActorState {
 
     /// Takes down what an event shows, and gives the event: a lock that was taken is kept until the attempt ends, and so is
     /// this page, where it was made.
+    #[inline(always)]
     #[tactic(auto, unfolding(snp_model::specs::Step::part_after))]
     pub fn take_down(&mut self, shown: &Shown, page: &MadePage) -> Event
         requires role { IsPagingRole self.old.role }

@@ -38,6 +38,7 @@ pub struct Adjustment {
 
 /// The next event of RMPADJUST of a guest's processor, in memory of so many frames: one of its walks, the lock of the page
 /// to which they have come, or the commit of what is locked.
+#[inline(never)]
 pub fn adjust_event<P: Parts>(
     parts: &mut P,
     number: u32,

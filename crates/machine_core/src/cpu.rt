@@ -99,6 +99,7 @@ fn begin<P: Parts>(parts: &P, walker: &Walker, refusal: Option<Outcome>, shown: 
 }
 
 // The event of reading a word of a nested table.
+#[inline(always)]
 fn read_nested<P: Parts>(
     parts: &P,
     frames: u32,
@@ -251,6 +252,7 @@ fn reach<P: Parts>(parts: &mut P, place: &Place, frame: u32, op: &Op, shown: &mu
 
 /// The next event of the walks of an item of a guest's processor, in memory of so many frames. Where they have come to a
 /// page, there is none, and the page is what is answered. An item may be refused as it begins.
+#[inline(always)]
 #[tactic(auto, using(crate::proofs::CpuLaws::table_moves), unfolding(snp_model::specs::Moves::walked_move, snp_model::specs::Moves::need_move))]
 pub fn walk<P: Parts>(
     parts: &P,
@@ -319,6 +321,7 @@ pub fn walk<P: Parts>(
 }
 
 /// The next event of an access of a guest's processor, in memory of so many frames.
+#[inline(always)]
 pub fn cpu_access<P: Parts>(
     parts: &mut P,
     frames: u32,

@@ -33,6 +33,7 @@ use snp_model::{Event, GuestEnd, GuestSpec, Item, Role};
 /// tables, over parts that have the regions that it touches. The locks of its number are those that its open attempt has
 /// taken. `page` is a place for one page, whatever it holds, and what it shows is written to a place that is there. Takes no
 /// memory.
+#[inline(always)]
 pub(crate) fn advance<P: Parts>(
     actor: &mut ActorState,
     number: u32,
@@ -62,6 +63,7 @@ pub(crate) fn advance<P: Parts>(
 }
 
 // What the next event of an unfinished actor shows; the parts are then as after it.
+#[inline(always)]
 #[tactic(auto, unfolding(snp_model::specs::Step::item_move))]
 fn next_event<P: Parts>(
     parts: &mut P,
@@ -117,6 +119,7 @@ fn next_event<P: Parts>(
 }
 
 // The next event of a guest's processor.
+#[inline(always)]
 #[tactic(auto, using(crate::proofs::HeldLaws::none_relocked, crate::proofs::HeldLaws::none_recontexted, crate::proofs::HeldLaws::instruction_recontexted, crate::proofs::HeldLaws::takes_none, crate::proofs::ArrivedLaws::attempt_admitted), unfolding(snp_model::specs::Step::item_move, snp_model::specs::Touches::item_touches, snp_model::specs::HeldLocks::AreItemLocks, snp_model::specs::OpenAttempts::IsAttempt))]
 fn cpu_event<P: Parts>(
     parts: &mut P,
@@ -187,13 +190,14 @@ fn cpu_event<P: Parts>(
             )
         }
         Item::Rmpupdate(_) | Item::Psmash { .. } | Item::Firmware(_) => {
-            *shown = Shown::misplaced()
+            shown.misplace()
         }
-        Item::Skip { count, test } => *shown = skip(actor, *count, test),
+        Item::Skip { count, test } => skip(actor, *count, test, shown),
     }
 }
 
 // The next event of a hypervisor's processor.
+#[inline(never)]
 #[tactic(auto, using(crate::proofs::TouchLaws::frame_has, crate::proofs::HeldLaws::none_relocked, crate::proofs::HeldLaws::none_recontexted, crate::proofs::HeldLaws::instruction_recontexted, crate::proofs::HeldLaws::takes_none), unfolding(snp_model::specs::Step::item_move, snp_model::specs::Touches::item_touches, snp_model::specs::HeldLocks::AreItemLocks))]
 fn host_event<P: Parts>(
     parts: &mut P,
@@ -219,17 +223,18 @@ fn host_event<P: Parts>(
 {
     match item {
         Item::Access { address, op } => host_access(parts, frames, *address, op, shown),
-        Item::Pvalidate { .. } | Item::Rmpadjust { .. } => *shown = Shown::misplaced(),
+        Item::Pvalidate { .. } | Item::Rmpadjust { .. } => shown.misplace(),
         Item::Rmpupdate(update) => {
             update_event(parts, number, frames, guests, actor, update, shown)
         }
         Item::Psmash { frame } => smash_event(parts, number, frames, guests, actor, *frame, shown),
-        Item::Firmware(_) => *shown = Shown::misplaced(),
-        Item::Skip { count, test } => *shown = skip(actor, *count, test),
+        Item::Firmware(_) => shown.misplace(),
+        Item::Skip { count, test } => skip(actor, *count, test, shown),
     }
 }
 
 // The next event of a firmware actor.
+#[inline(never)]
 #[tactic(auto, using(crate::proofs::HeldLaws::none_relocked, crate::proofs::HeldLaws::none_recontexted), unfolding(snp_model::specs::Step::item_move, snp_model::specs::Touches::item_touches, snp_model::specs::HeldLocks::AreItemLocks, snp_model::specs::OpenAttempts::IsAttempt))]
 fn firmware_event<P: Parts>(
     parts: &mut P,
@@ -259,10 +264,10 @@ fn firmware_event<P: Parts>(
         | Item::Pvalidate { .. }
         | Item::Rmpadjust { .. }
         | Item::Rmpupdate(_)
-        | Item::Psmash { .. } => *shown = Shown::misplaced(),
+        | Item::Psmash { .. } => shown.misplace(),
         Item::Firmware(command) => command_event(
             parts, number, frames, guests, actor, command, page, shown,
         ),
-        Item::Skip { count, test } => *shown = skip(actor, *count, test),
+        Item::Skip { count, test } => skip(actor, *count, test, shown),
     }
 }

@@ -65,6 +65,8 @@ impl Machine {
 
     /// Makes one event of an actor, numbered from 1: the step of the tables, of which there is exactly one.
     /// Takes no memory.
+    // It is inlined so that its event, which is large, goes straight to where its caller keeps it.
+    #[inline(always)]
     pub fn step(&mut self, actor: u32) -> Event
         requires { IsUnfinished (state_of self.old) actor }
         ensures step { Step (state_of self.old) actor (state_of self.new) result }

@@ -18,10 +18,11 @@ pub struct Shown {
 
 impl Shown {
     /// The event of an item of another role's, which no scenario has.
-    pub fn misplaced() -> Shown
-        ensures { result ≡ record { deed = Control; outcome = Some Next; lock = None } }
+    #[inline(never)]
+    pub fn misplace(&mut self)
+        ensures { self.new ≡ record { deed = Control; outcome = Some Next; lock = None } }
     {
-        Shown::last(Deed::Control, Outcome::Next)
+        *self = Shown::last(Deed::Control, Outcome::Next);
     }
 
     /// The event of a walk that has faulted, at which no open attempt stands.

@@ -7,9 +7,10 @@ use crate::shown::Shown;
 use snp_model::{Deed, Outcome, SkipTest};
 
 /// The one event of a skip of so many items.
+#[inline(never)]
 #[tactic(auto, unfolding(snp_model::specs::Skips::skip_outcome))]
-pub fn skip(actor: &ActorState, count: u32, test: &SkipTest) -> Shown
-    ensures { result ≡ record { deed = Control; outcome = Some (skip_outcome count test.now actor.now.last); lock = None } }
+pub fn skip(actor: &ActorState, count: u32, test: &SkipTest, shown: &mut Shown)
+    ensures { shown.new ≡ record { deed = Control; outcome = Some (skip_outcome count test.now actor.now.last); lock = None } }
 {
     let outcome = match actor.last() {
         None => Outcome::Next,
@@ -21,7 +22,7 @@ pub fn skip(actor: &ActorState, count: u32, test: &SkipTest) -> Shown
             }
         }
     };
-    Shown::last(Deed::Control, outcome)
+    *shown = Shown::last(Deed::Control, outcome);
 }
 
 // Whether a test holds of an outcome.

@@ -22,6 +22,7 @@ use snp_model::{Deed, GuestSpec, Outcome, PageSize, Refusal};
 
 /// The next event of PSMASH, in memory of so many frames: the lock of the page of its frame, or the commit of what is
 /// locked.
+#[inline(never)]
 pub fn smash_event<P: Parts>(
     parts: &mut P,
     number: u32,

@@ -35,6 +35,7 @@ pub struct Validation {
 
 /// The next event of PVALIDATE of a guest's processor, in memory of so many frames: one of its walks, the lock of the page
 /// to which they have come, or the commit of what is locked.
+#[inline(never)]
 pub fn validate_event<P: Parts>(
     parts: &mut P,
     number: u32,

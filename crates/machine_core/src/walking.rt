@@ -137,6 +137,7 @@ fn tables_fault(path: &GuestPath, lookup: &Lookup, words: &[u64], word: u64) -> 
 
 /// What an item needs next, where its guest walk stands here: by the words of nested tables that the nested walk under
 /// way has read.
+#[inline(always)]
 #[tactic(auto, unfolding(snp_model::specs::Walking::walk_need))]
 pub fn walk_need(frames: u32, npt: u32, lookup: &Lookup, stands: GuestEnd, words: &[u64]) -> Need
     requires npt { npt < frames }
