@@ -42,7 +42,9 @@ fn put_ending(out: &mut [u8], at: usize, outcome: &Option<Outcome>) -> usize
     match outcome {
         Some(outcome) => {
             let end = put(out, at, b" ");
-            put_outcome(out, end, outcome)
+            // A copy, so that of an event without an outcome nothing has to stand in memory.
+            let outcome = *outcome;
+            put_outcome(out, end, &outcome)
         }
         None => at,
     }
