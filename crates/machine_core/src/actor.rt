@@ -236,20 +236,30 @@ impl ActorState {
         ensures locks { self.new.standing.locks ≡ locks_by shown.now self.old.standing }
         ensures context { self.new.standing.context_lock ≡ context_by shown.now self.old.standing }
     {
-        let event = Event {
-            item: self.item as u32,
-            attempt: self.attempt,
-            deed: shown.deed,
-            outcome: shown.outcome,
-        };
+        let item = self.item as u32;
+        let attempt = self.attempt;
+        let deed = shown.deed;
         match &shown.outcome {
             None => {
-                self.keep(shown.deed);
+                self.keep(deed);
                 self.take(shown.lock, page);
+                Event {
+                    item,
+                    attempt,
+                    deed,
+                    outcome: None,
+                }
             }
-            Some(outcome) => self.end(outcome),
+            Some(outcome) => {
+                self.end(outcome);
+                Event {
+                    item,
+                    attempt,
+                    deed,
+                    outcome: Some(*outcome),
+                }
+            }
         }
-        event
     }
 
     // The end of the open attempt by an outcome: its item is passed or tried again, and what it had taken is let go.

@@ -81,6 +81,7 @@ pub fn index_of(address: u64) -> u16
 }
 
 // The beginning of an item, which may have a refusal of its own.
+#[inline(always)]
 #[tactic(auto, unfolding(snp_model::specs::Moves::begin_move, crate::specs::Bays::contexts_of))]
 fn begin<P: Parts>(parts: &P, walker: &Walker, refusal: Option<Outcome>, shown: &mut Shown)
     requires { IsSome ((P.stock parts.now).contexts walker.now.cpu.guest) }
@@ -134,6 +135,7 @@ fn read_nested<P: Parts>(
 }
 
 // The event of reading a word of a guest table, with its check.
+#[inline(always)]
 fn read_table<P: Parts>(
     parts: &P,
     actor: &ActorState,
@@ -228,6 +230,7 @@ fn data_place(guests: &[GuestSpec], walker: &Walker, at: &Arrived) -> Place
 }
 
 // The event of the access itself, at the frame that its walks have come to.
+#[inline(always)]
 fn reach<P: Parts>(parts: &mut P, place: &Place, frame: u32, op: &Op, shown: &mut Shown)
     requires has { HasFrame (P.stock parts.old) frame }
     requires place { IsPlace place.now }

@@ -109,6 +109,7 @@ fn tables_stand(path: &GuestPath, lookup: &Lookup, words: &[u64]) -> GuestEnd
 
 /// The code of the #PF that the guest walk of an item comes to by one word more, if it does. A nested walk that has read
 /// no word yet has come to no fault.
+#[inline(always)]
 #[tactic(auto, using(crate::proofs::WalkingLaws::no_fault_yet), unfolding(snp_model::specs::Walking::guest_stands))]
 pub fn fault_by_table(paging: Paging, lookup: &Lookup, words: &[u64], word: u64) -> Option<u64>
     requires { IsPaging paging }
@@ -158,6 +159,7 @@ pub fn walk_need(frames: u32, npt: u32, lookup: &Lookup, stands: GuestEnd, words
 }
 
 /// The code of the nested page fault that the nested walk under way comes to by the word that it reads, if it does.
+#[inline(always)]
 #[tactic(auto, using(crate::proofs::WalkingLaws::reads_table, crate::proofs::WalkingLaws::reads_data), unfolding(snp_model::specs::Walking::walk_need))]
 pub fn fault_by_nested(
     frames: u32,
