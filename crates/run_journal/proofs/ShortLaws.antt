@@ -9,7 +9,7 @@ use Rattle.snp_model.specs.declared.event.Outcome.{Outcome}
 use Rattle.snp_model.specs.Journal.{actors_of}
 use Rattle.run_journal.specs.declared.short.Mark.{Mark}
 use Rattle.run_journal.specs.declared.short.Short.{Short}
-use Rattle.run_journal.specs.Shorts.{outcome_at, entry_of, entries_of, are_within, AreShorts, Keeps}
+use Rattle.run_journal.specs.Shorts.{whole_deed, outcome_at, entry_of, entries_of, are_within, AreShorts, Keeps}
 
 -- a place is 0 or not
 pub at_none : (outcomes : List Outcome) (end : ℕ) → end ≡ 0 → None ≡ outcome_at outcomes end
@@ -69,7 +69,7 @@ entries_stay before now outcome end [] shorts keeps within = refl
 entries_stay before now outcome end (mark ∷ marks) [] keeps within = refl
 entries_stay before now outcome end (mark ∷ marks) (short ∷ shorts) keeps within =
     let head : entry_of now mark short ≡ entry_of before mark short =
-    ap (λ (o : Option Outcome). let e : Event = record { item = short.item; attempt = short.attempt; deed = short.deed; outcome = o } in (mark.actor, e)) (keeps.stays mark.end (le_of _ _ (and_l _ _ within))) in
+    ap (λ (o : Option Outcome). let e : Event = record { item = short.item; attempt = short.attempt; deed = whole_deed short.deed; outcome = o } in (mark.actor, e)) (keeps.stays mark.end (le_of _ _ (and_l _ _ within))) in
     ap (λ (e : ℕ × Event). e ∷ entries_of now marks shorts) head ∙ ap (λ (es : List (ℕ × Event)). entry_of before mark short ∷ es) (entries_stay before now outcome end marks shorts keeps (and_r _ _ within))
 
 entries_join : (outcomes : List Outcome) (marks : List Mark) (shorts : List Short) (mark : Mark) (short : Short) → length marks ≡ length shorts
@@ -81,11 +81,11 @@ entries_join outcomes (m ∷ marks) (s ∷ shorts) mark short same = ap (λ (es 
 
 -- and one is added
 pub entries_more : (before now : List Outcome) (event : Event) (end actor : ℕ) (marks : List Mark) (shorts : List Short) (mark : Mark) (short : Short) → Keeps before now event.outcome end → are_within (length before) marks ≡ true → length marks ≡ length shorts
-    → mark ≡ record { actor = actor; end = end } → short ≡ record { item = event.item; attempt = event.attempt; deed = event.deed }
+    → mark ≡ record { actor = actor; end = end } → short.item ≡ event.item → short.attempt ≡ event.attempt → whole_deed short.deed ≡ event.deed
     → entries_of now (marks ++ mark ∷ []) (shorts ++ short ∷ []) ≡ entries_of before marks shorts ++ (actor, event) ∷ []
-entries_more before now event end actor marks shorts mark short keeps within same whose is =
+entries_more before now event end actor marks shorts mark short keeps within same whose items attempts deeds =
     let one : entry_of now mark short ≡ (actor, event) =
-    (λ i. entry_of now (whose i) (is i)) ∙ ap (λ (o : Option Outcome). let e : Event = record { item = event.item; attempt = event.attempt; deed = event.deed; outcome = o } in (actor, e)) keeps.value in
+    (λ i. entry_of now (whose i) short) ∙ (λ i. let e : Event = record { item = items i; attempt = attempts i; deed = deeds i; outcome = keeps.value i } in (actor, e)) in
     entries_join now marks shorts mark short same
     ∙ ap (λ (es : List (ℕ × Event)). es ++ entry_of now mark short ∷ []) (entries_stay before now event.outcome end marks shorts keeps within)
     ∙ ap (λ (e : ℕ × Event). entries_of before marks shorts ++ e ∷ []) one

@@ -2,7 +2,7 @@ ghost use Rattle.std.specs.Prelude.{◌≡◌, ◌<◌, ◌≤◌, ◌^◌, ◌-
 ghost use Rattle.snp_model.specs.Journal.{actors_of};
 ghost use Rattle.run_journal.specs.Shorts.{Keeps, outcome_at};
 
-use crate::short::{Mark, Short};
+use crate::short::{Mark, Short, shortened, whole_deed};
 use snp_model::{Event, Outcome};
 use std::alloc::{AllocError, Global};
 use std::marker::Model;
@@ -60,7 +60,7 @@ impl Journal {
         self.events.push_reserved(Short {
             item: event.item,
             attempt: event.attempt,
-            deed: event.deed,
+            deed: shortened(&event.deed),
         });
     }
 
@@ -90,7 +90,7 @@ impl Journal {
         let event = Event {
             item: short.item,
             attempt: short.attempt,
-            deed: short.deed,
+            deed: whole_deed(&short.deed),
             outcome: outcome_at(&self.outcomes, mark.end),
         };
         (mark.actor, event)
