@@ -147,18 +147,8 @@ pub fn whole_deed(deed: &ShortDeed) -> Deed
             frame,
             gpn,
             value,
-        } => Deed::Table {
-            gpn,
-            index,
-            frame,
-            value: Some(value),
-        },
-        ShortDeed::RefusedTable { index, frame, gpn } => Deed::Table {
-            gpn,
-            index,
-            frame,
-            value: None,
-        },
+        } => whole_table(gpn, index, frame, Some(value)),
+        ShortDeed::RefusedTable { index, frame, gpn } => whole_table(gpn, index, frame, None),
         ShortDeed::Access {
             private,
             index,
@@ -177,5 +167,18 @@ pub fn whole_deed(deed: &ShortDeed) -> Deed
         ShortDeed::Commit { size, frame, gpn } => Deed::Commit { frame, gpn, size },
         ShortDeed::CommitContext { guest } => Deed::CommitContext { guest },
         ShortDeed::Control => Deed::Control,
+    }
+}
+
+// A read of a guest table.
+#[inline(always)]
+fn whole_table(gpn: u64, index: u16, frame: u32, value: Option<u64>) -> Deed
+    ensures { result ≡ Deed.Table gpn index frame value }
+{
+    Deed::Table {
+        gpn,
+        index,
+        frame,
+        value,
     }
 }
