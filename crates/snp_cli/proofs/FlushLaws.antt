@@ -158,6 +158,6 @@ known_status zero result is known = let six = is.done (omega arith) in (omega ar
 known_status (suc n) result is known = let same = is.other (λ e. absurd (omega (arith, e))) in (omega (arith, known.0), λ e. known.1 (omega (arith, e)))
 
 pub drawn_status : (status result : ℕ) → IsUnflushed status result → (status ≡ 0) ⊎ ((status ≡ 6) ⊎ (status ≡ 7)) → (result ≡ 0) ⊎ ((result ≡ 6) ⊎ (result ≡ 7))
-drawn_status status result is (inl zero) = inr (inl (is.done zero))
+drawn_status status result is (inl none) = inr (inl (is.done none))
 drawn_status status result is (inr (inl six)) = inr (inl (same_status status result 6 is (omega arith) six))
 drawn_status status result is (inr (inr seven)) = inr (inr (same_status status result 7 is (omega arith) seven))
