@@ -189,9 +189,7 @@ fn cpu_event<P: Parts>(
                 parts, number, frames, guests, actor, cpu, &ask, stands, shown,
             )
         }
-        Item::Rmpupdate(_) | Item::Psmash { .. } | Item::Firmware(_) => {
-            shown.misplace()
-        }
+        Item::Rmpupdate(_) | Item::Psmash { .. } | Item::Firmware(_) => { shown.misplace() }
         Item::Skip { count, test } => skip(actor, *count, test, shown),
     }
 }
