@@ -65,18 +65,19 @@ pub fn host_access(
 }
 
 // The verdict on a guest's access.
+#[inline(always)]
 fn guest_verdict(entry: &RmpEntry, at: &Place, op: &Op) -> Verdict
     requires { IsPlace at.now }
     ensures { result ≡ guest_verdict entry.now at.now op.now }
 {
     if at.private {
-        private_verdict(entry, at, op)
-    } else {
-        shared_verdict(entry, at, op)
+        return private_verdict(entry, at, op);
     }
+    shared_verdict(entry, at, op)
 }
 
 // Makes an access where the verdict lets it pass, and else changes nothing.
+#[inline(always)]
 fn settle(memory: &mut Region, slot: usize, index: usize, op: &Op, verdict: Verdict) -> Outcome
     requires slot_below { slot < 512 }
     requires index_below { index < 512 }

@@ -9,6 +9,8 @@ use snp_model::{NestedFault, Op, Outcome, PageSize, Place, RmpEntry, Verdict};
 
 /// The verdict on a guest's private access to a frame with this entry: the first row of the table that
 /// applies (APM volume 2, 15.36.10).
+// It is inlined so that an entry that its caller has read goes nowhere through memory.
+#[inline(always)]
 #[tactic(auto, unfolding(snp_model::specs::Verdicts::private_verdict))]
 pub fn private_verdict(entry: &RmpEntry, at: &Place, op: &Op) -> Verdict
     requires { IsPlace at.now }
@@ -16,21 +18,26 @@ pub fn private_verdict(entry: &RmpEntry, at: &Place, op: &Op) -> Verdict
     ensures passes { (result ≡ Pass) ↔ IsAllowed entry.now at.now op.now }
     ensures never_hidden { result ≢ Hidden }
 {
+    // Each row returns, since the value of an `if` goes through a place of its own.
     if !entry.assigned || entry.asid != at.asid {
-        private_refusal(at, op, false)
-    } else if entry.gpn != at.gpn {
-        private_refusal(at, op, false)
-    } else if entry.immutable {
-        private_refusal(at, op, false)
-    } else if is_large(at.leaf) && !is_large(entry.size) {
-        private_refusal(at, op, false)
-    } else if !entry.validated {
-        Verdict::Fault(Outcome::Vc(0x404))
-    } else if lacks(entry.perms[at.vmpl as usize], op) {
-        private_refusal(at, op, true)
-    } else {
-        Verdict::Pass
+        return private_refusal(at, op, false);
     }
+    if entry.gpn != at.gpn {
+        return private_refusal(at, op, false);
+    }
+    if entry.immutable {
+        return private_refusal(at, op, false);
+    }
+    if is_large(at.leaf) && !is_large(entry.size) {
+        return private_refusal(at, op, false);
+    }
+    if !entry.validated {
+        return Verdict::Fault(Outcome::Vc(0x404));
+    }
+    if lacks(entry.perms[at.vmpl as usize], op) {
+        return private_refusal(at, op, true);
+    }
+    Verdict::Pass
 }
 
 /// The verdict on a guest's shared access to a frame with this entry.
@@ -60,6 +67,7 @@ pub fn shared_verdict(entry: &RmpEntry, at: &Place, op: &Op) -> Verdict
 }
 
 // A private access is refused by the RMP: by the VMPL's permissions, or before.
+#[inline(never)]
 fn private_refusal(at: &Place, op: &Op, by_permissions: bool) -> Verdict
     ensures verdict { result ≡ private_refusal at.now op.now by_permissions }
     ensures faults { result ≢ Pass }

@@ -54,12 +54,13 @@ impl RmpRegion {
     }
 
     /// The facts of a frame.
+    #[inline(always)]
     pub fn effective(&self, slot: usize) -> RmpEntry
         requires { slot < 512 }
         ensures { result ≡ facts_at self.now slot }
     {
         match self.size {
-            PageSize::Small => self.entries[slot],
+            PageSize::Small => by_fields(&self.entries[slot]),
             PageSize::Large => within(&self.entries[0], slot),
         }
     }
@@ -203,6 +204,25 @@ fn spread(entries: &mut Vec<RmpEntry>, head: &RmpEntry)
 {
     'slots: for slot in 0..512 {
         entries[slot] = within(head, slot);
+    }
+}
+
+// The same entry. It is copied field by field, since a copy of the whole copies the unused bytes behind its fields too, and
+// reading those again waits for their writes.
+#[inline(always)]
+fn by_fields(entry: &RmpEntry) -> RmpEntry
+    ensures { result ≡ entry.now }
+{
+    RmpEntry {
+        assigned: entry.assigned,
+        size: entry.size,
+        immutable: entry.immutable,
+        gpn: entry.gpn,
+        asid: entry.asid,
+        vmsa: entry.vmsa,
+        validated: entry.validated,
+        perms: entry.perms,
+        kind: entry.kind,
     }
 }
 

@@ -13,7 +13,8 @@ within-requires-clause-aligned c =
 
 pub returns-in-Small : goal.returns-in-Small
 returns-in-Small c =
-    get_or_read c.self.inside.entries.items c.args.slot _ (omega (arith, c.requires, c.self.invariant.entries_count)) c.index.ensures free_entry
+    c.by_fields.ensures
+    ∙ get_or_read c.self.inside.entries.items c.args.slot _ (omega (arith, c.requires, c.self.invariant.entries_count)) c.index.ensures free_entry
     ∙ facts_small _ _ _ _ c.args.slot c.in-Small.is c.self.view_is
 
 pub returns-in-Large : goal.returns-in-Large
