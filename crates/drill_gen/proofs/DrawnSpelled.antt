@@ -18,7 +18,7 @@ use Rattle.snp_model.specs.Generated.{generator_of, draw, word_address, mapping,
 use Rattle.snp_model.specs.ScenarioLines.{is_opened}
 use Rattle.snp_model.proofs.PairLaws.{each_append}
 use Rattle.script_text.specs.Written.{IsTriedBy, IsWide, IsWideCommand}
-use Rattle.scenario_text.specs.Spelled.{HasWholeKey, IsOfOpened, IsRoleOf, IsSpelledLine, IsSpelledActor, IsSpelled}
+use Rattle.scenario_text.proofs.Spelled.{HasWholeKey, IsOfOpened, IsRoleOf, IsSpelledLine, IsSpelledActor, IsSpelled}
 use Rattle.drill_gen.proofs.GeneratedCommands.{draw_below}
 use Rattle.drill_gen.proofs.GeneratedSound.{each_from}
 

@@ -17,7 +17,7 @@ use Rattle.snp_model.specs.Lines.{◌>>=◌, below, fixed, is_row, multiple, num
 use Rattle.snp_model.proofs.LineLaws.{bind_ok, multiple_ok, number_ok}
 use Rattle.script_text.specs.Written.{IsTriedBy, IsWide, IsWideCommand, IsWideTest}
 use Rattle.script_text.proofs.SpellingLaws.{below_small}
-use Rattle.scenario_text.specs.Spelled.{IsSpelledLine}
+use Rattle.scenario_text.proofs.Spelled.{IsSpelledLine}
 use Rattle.scenario_text.proofs.GivesLaws.{Gives, done, none, step, next, choose}
 
 abbrev Spells : Result Line Reason → Type 0

@@ -11,6 +11,7 @@ pub mod OrdersAgain
 pub mod PagesAgain
 pub mod PagesLaws
 pub mod ScenarioAgain
+pub mod Spelled
 pub mod StepLaws
 pub mod TextAgain
 pub mod TextLaws

@@ -1,4 +1,3 @@
 pub mod Answers
 pub mod Pages
-pub mod Spelled
 pub mod Steps
