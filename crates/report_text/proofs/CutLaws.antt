@@ -9,9 +9,8 @@ use Rattle.std.proofs.lemmas.List.Folds.{list_all-append}
 use Rattle.snp_model.specs.EventText.{hex, read_text}
 use Rattle.snp_model.specs.Lines.{cut_at, is_decimal_digit, is_hex_digit}
 use Rattle.script_text.proofs.HexWords.{hex_all, hex_spelled}
-use Rattle.script_text.proofs.SpellingLaws.{IsWord, is_graphic, decimal_word}
+use Rattle.script_text.proofs.SpellingLaws.{IsWord, is_graphic, decimal_again, decimal_word, digits_only}
 use Rattle.report_text.specs.EventLines.{attempt_word, decimal_below, frame_word, gpn_word, read_word}
-use Rattle.report_text.proofs.DecimalLaws.{decimal_again, digits_only}
 use Rattle.report_text.proofs.EventWords.{around}
 use Rattle.report_text.proofs.HexLaws.{hex_again}
 

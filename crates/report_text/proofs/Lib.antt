@@ -1,5 +1,4 @@
 pub mod CutLaws
-pub mod DecimalLaws
 pub mod EventAgain
 pub mod EventWords
 pub mod HexLaws
