@@ -15,9 +15,10 @@ use Rattle.snp_model.specs.EventText.{event_text}
 use Rattle.snp_model.specs.Lines as lines
 use Rattle.snp_model.specs.Lines.{cut_at, words_of}
 use Rattle.snp_model.specs.Spelling.{joined}
+use Rattle.snp_model.proofs.PairLaws.{each_append}
 use Rattle.script_text.proofs.AgainLaws.{size_again, size_spelled}
 use Rattle.script_text.proofs.HexWords.{bytes_spelled, hex_spelled}
-use Rattle.script_text.proofs.SpellingLaws.{IsWord, all_words, decimal_again, decimal_word, line_plain, words_again}
+use Rattle.script_text.proofs.SpellingLaws.{IsWord, decimal_again, decimal_word, line_plain, words_again}
 use Rattle.report_text.specs.EventLines.{bare_deed_of, bare_outcome, carry_outcome, confirmed, commit_context_of, commit_of, compared_outcome, counted_outcome, deed_of, ending_of, event_of, firmware_in_use, host_of, line_event, lock_context_of, lock_of, long_outcome, named_outcome, nested_of, one_of, outcome_of, read_of, status_in_use, table_of, access_of, tags_outcome, valued_outcome}
 use Rattle.report_text.specs.EventNumbers.{IsDeed, IsEvent, IsLineOf, IsOutcome}
 use Rattle.report_text.proofs.CutLaws.{attempt_again, decimal_below_again, frame_again, gpn_again, around_spelled, hex_around_spelled, read_again, read_spelled}
@@ -177,7 +178,7 @@ event_spelled actor event a is = (
   decimal_word actor (omega (arith, a)),
   (
     around_spelled 46 event.item event.attempt refl (omega (arith, is.item)) (omega (arith, is.attempt)),
-    all_words (deed_said event.deed) (ending_said event.outcome) (deed_spelled event.deed is.deed) (ending_spelled event.outcome is.outcome),
+    each_append IsWord (deed_said event.deed) (ending_said event.outcome) (deed_spelled event.deed is.deed) (ending_spelled event.outcome is.outcome),
   ),
 )
 

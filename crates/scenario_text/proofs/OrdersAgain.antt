@@ -18,6 +18,7 @@ use Rattle.snp_model.specs.ScenarioText.{head_lines, order_lines, order_lines_of
 use Rattle.snp_model.specs.Sound.{IsTurn}
 use Rattle.snp_model.specs.Spelling.{joined}
 use Rattle.snp_model.proofs.AttemptLaws.{turns_append}
+use Rattle.snp_model.proofs.SoundLaws.{all_take}
 use Rattle.script_text.proofs.ItemAgain.{ranged_decimal}
 use Rattle.script_text.proofs.SpellingLaws.{IsWord, is_graphic, decimal_again, decimal_word, digits_only, line_plain, words_again}
 use Rattle.scenario_text.proofs.MakesAgain.{more_make, one_makes, said_fits}
@@ -122,12 +123,7 @@ order_fits c turn turns short some are few =
     said_fits c (codes "order") (turn_words (turn ∷ turns)) (reading (record c { order = c.order ++ turn ∷ turns })) refl (turns_words (turn ∷ turns) are) fits (named (joined (codes "order" ∷ turn_words (turn ∷ turns))) refl)
     (order_form c (decimal turn.actor ++ 42 ∷ decimal turn.count) (turn_words turns) some ∙ order_added c (turn ∷ turns) are few)
 
-all_take : {X : Type 0} (P : X → Type 0) (k : ℕ) (xs : List X) → AllByRecursion P xs → AllByRecursion P (take k xs)
-all_take P zero [] all = tt
-all_take P (suc k) [] all = tt
-all_take P zero (x ∷ xs) all = tt
-all_take P (suc k) (x ∷ xs) all = (all.0, all_take P k xs all.1)
-
+-- what all elements have, all behind a place have
 all_drop : {X : Type 0} (P : X → Type 0) (k : ℕ) (xs : List X) → AllByRecursion P xs → AllByRecursion P (drop k xs)
 all_drop P zero [] all = tt
 all_drop P (suc k) [] all = tt
@@ -158,7 +154,7 @@ orders_from (suc room) c (turn ∷ turns) short some are few =
     let all : turns_count (next.order ++ others) ≤ 262144 = omega (arith, few, ap turns_count whole) in
     let this : turns_count next.order ≤ 262144 = omega (arith, all, turns_append next.order others) in
     let behind = orders_from room next others (omega (arith, short, length-drop 15 turns)) some (all_drop IsTurn 15 turns are.1) all in
-    (reading next, order_fits c turn (take 15 turns) (take_short 15 turns) some (are.0, all_take IsTurn 15 turns are.1) this, subst (λ (ts : List Turn). Makes (reading next) (order_lines_of room others) (reading (record c { order = ts }))) whole behind)
+    (reading next, order_fits c turn (take 15 turns) (take_short 15 turns) some (are.0, all_take IsTurn turns 15 are.1) this, subst (λ (ts : List Turn). Makes (reading next) (order_lines_of room others) (reading (record c { order = ts }))) whole behind)
 
 -- the lines of orders
 pub orders_make : (c : Scenario) (turns : List Turn) → c.regions ≢ 0 → c.order ≡ [] → AllByRecursion IsTurn turns → turns_count turns ≤ 262144

@@ -19,6 +19,7 @@ use Rattle.snp_model.specs.Lines.{parts_at, words_of, is_plain, is_printable}
 use Rattle.snp_model.specs.Reading.{Made, nothing, reading, closed, Makes, IsText, fit, fit_line, fit_words, is_passed_over, most_bytes}
 use Rattle.snp_model.specs.ScenarioText.{text_of, guest_line, guest_lines, page_line, page_lines, word_line, word_lines, actor_line, actor_lines, item_lines, order_lines, order_lines_of, head_lines, scenario_lines}
 use Rattle.snp_model.proofs.LineLaws.{select}
+use Rattle.snp_model.proofs.PairLaws.{each_append}
 use Rattle.scenario_text.proofs.ItemsAgain.{line_begins}
 use Rattle.scenario_text.proofs.NamedLines.{is_unnamed, named}
 
@@ -104,22 +105,18 @@ orders_read zero turns = tt
 orders_read (suc room) [] = tt
 orders_read (suc room) (turn ∷ turns) = (refl, orders_read room _)
 
-all_append : {X : Type 0} (P : X → Type 0) (xs ys : List X) → AllByRecursion P xs → AllByRecursion P ys → AllByRecursion P (xs ++ ys)
-all_append P [] ys all others = others
-all_append P (x ∷ xs) ys all others = (all.0, all_append P xs ys all.1 others)
-
 actors_read : (number : ℕ) (actors : List Actor) → AllByRecursion IsRead (actor_lines number actors)
 unfolding actor_lines
 actors_read number [] = tt
 actors_read number (actor ∷ actors) =
-    (role_read number actor.role, all_append IsRead (item_lines actor.script) (actor_lines (number + 1) actors) (items_read actor.script) (actors_read (number + 1) actors))
+    (role_read number actor.role, each_append IsRead (item_lines actor.script) (actor_lines (number + 1) actors) (items_read actor.script) (actors_read (number + 1) actors))
 
 -- the lines of a scenario
 pub scenario_read : (c : Scenario) → AllByRecursion IsRead (scenario_lines c)
 unfolding scenario_lines head_lines order_lines
 scenario_read c =
-    let orders = all_append IsRead (order_lines_of (length c.order) c.order) (codes "end" ∷ []) (orders_read (length c.order) c.order) (refl, tt) in
-    let actors = all_append IsRead (actor_lines 1 c.actors) _ (actors_read 1 c.actors) orders in
-    let words = all_append IsRead (word_lines c.words) _ (words_read c.words) actors in
-    let pages = all_append IsRead (page_lines c.pages) _ (pages_read c.pages) words in
-    (refl, (refl, all_append IsRead (guest_lines 1 c.guests) _ (guests_read 1 c.guests) pages))
+    let orders = each_append IsRead (order_lines_of (length c.order) c.order) (codes "end" ∷ []) (orders_read (length c.order) c.order) (refl, tt) in
+    let actors = each_append IsRead (actor_lines 1 c.actors) _ (actors_read 1 c.actors) orders in
+    let words = each_append IsRead (word_lines c.words) _ (words_read c.words) actors in
+    let pages = each_append IsRead (page_lines c.pages) _ (pages_read c.pages) words in
+    (refl, (refl, each_append IsRead (guest_lines 1 c.guests) _ (guests_read 1 c.guests) pages))

@@ -21,7 +21,8 @@ use Rattle.snp_model.specs.ItemLines.{once, address_word, load_row, cas_row, ski
 use Rattle.snp_model.specs.Lines.{◌>>=◌, ◌>>◌, below, decimal_of, fixed, multiple, number, number_of, ranged, word}
 use Rattle.snp_model.specs.Spelling.{behind, joined, flag_text, access_words, skip_words, item_said, retry_words, item_text}
 use Rattle.snp_model.proofs.LineLaws.{bind_ok, multiple_ok, number_ok, ranged_ok, select, then_ok}
-use Rattle.script_text.proofs.SpellingLaws.{IsWord, all_words, below_again, below_small, decimal_word, joined_more, line_plain, number_again, ranged_again, ranged_small, words_again}
+use Rattle.snp_model.proofs.PairLaws.{each_append}
+use Rattle.script_text.proofs.SpellingLaws.{IsWord, below_again, below_small, decimal_word, joined_more, line_plain, number_again, ranged_again, ranged_small, words_again}
 
 -- what is written of a line is read as it
 abbrev pub Again : Role → ℕ → Line → Type 0
@@ -198,12 +199,12 @@ pub retried_again : (role : Role) (frames : ℕ) (w : List ℕ) (ws : List (List
 retried_again role frames w ws item n is are few few_more never some (inl none) =
     let P : ℕ → Type 0 = λ k. item_line role frames (joined (w ∷ ws) ++ behind (retry_words k)) ≡ Ok (let l : Line = record { item = item; retries = k } in l) in
     subst P (sym none) (subst (λ (rs : List (List ℕ)). item_line role frames (joined (w ∷ ws) ++ behind rs) ≡ Ok (once item)) (sym retry_none)
-    (line_again role frames w ws [] (once item) is (all_words ws [] are tt) few never))
+    (line_again role frames w ws [] (once item) is (each_append IsWord ws [] are tt) few never))
 retried_again role frames w ws item n is are few few_more never some (inr times) =
     let made : Line = record { item = item; retries = n } in
     let rs : List (List ℕ) = codes "retry" ∷ decimal n ∷ [] in
     subst (λ (vs : List (List ℕ)). item_line role frames (joined (w ∷ ws) ++ behind vs) ≡ Ok made) (sym (retry_some n times.1))
-    (line_again role frames w ws rs made is (all_words ws rs are (refl, (decimal_word n times.2, tt))) (few_more (decimal n)) (some times.0))
+    (line_again role frames w ws rs made is (each_append IsWord ws rs are (refl, (decimal_word n times.2, tt))) (few_more (decimal n)) (some times.0))
 
 -- the lines of PVALIDATE and PSMASH
 pub validate_again : (frames guest vmpl npt : ℕ) (paging : Paging) (ws : List (List ℕ)) (line : Line) → validate_row ws ≡ Ok line → Again (Cpu guest vmpl npt paging) frames line

@@ -143,11 +143,6 @@ line_printable w (v ∷ vs) is are = list_all-append is_printable w (32 ∷ (v +
 pub line_plain : (w : List ℕ) (ws : List (List ℕ)) → IsWord w → AllByRecursion IsWord ws → nat_le (length (w ∷ ws)) 17 ≡ true → is_plain (joined (w ∷ ws)) ≡ true
 line_plain w ws is are few = rw (line_printable w ws is are, words_again w ws is are) few
 
--- words and others behind them
-pub all_words : (ws vs : List (List ℕ)) → AllByRecursion IsWord ws → AllByRecursion IsWord vs → AllByRecursion IsWord (ws ++ vs)
-all_words [] vs are others = others
-all_words (w ∷ ws) vs are others = (are.0, all_words ws vs are.1 others)
-
 -- words behind others are one list of words
 behind_more : (ws vs : List (List ℕ)) → behind ws ++ behind vs ≡ behind (ws ++ vs)
 behind_more [] vs = refl
