@@ -1,54 +1,32 @@
 -- Two numbers with a separator between them are read again, and single numbers below an end.
 use Rattle.std.proofs.Common.{◌≡◌, ℕ, ◌^◌, ◌<◌, Bool, true, false, List, [], ◌∷◌, ◌++◌, length, refl, ◌∙◌, arith, length-append}
 use Rattle.std.specs.Prelude.{Option, Some, None, Ok, bytes_eq, codes, decimal, nat_lt, ◌==◌, ◌&&◌, IfSome}
-use Rattle.std.specs.List.{AllByRecursion, list_all, position_or_len}
 use Rattle.std.specs.Fmt.{digits}
-use Rattle.std.proofs.Math.Seq.{take-append_seam, drop-append-add}
 use Rattle.std.proofs.lemmas.Bool.Decides.{nat_tests}
+use Rattle.std.proofs.lemmas.List.Elements.{All-cons}
 use Rattle.std.proofs.lemmas.List.Folds.{list_all-append}
 use Rattle.snp_model.specs.EventText.{hex, read_text}
-use Rattle.snp_model.specs.Lines.{cut_at, is_decimal_digit, is_hex_digit}
+use Rattle.snp_model.specs.Lines.{is_decimal_digit, is_hex_digit}
 use Rattle.script_text.proofs.HexWords.{hex_all, hex_spelled}
+use Rattle.script_text.proofs.PartsLaws.{HasNo, all_apart, cut_again}
 use Rattle.script_text.proofs.SpellingLaws.{IsWord, is_graphic, decimal_again, decimal_word, digits_only}
 use Rattle.report_text.specs.EventLines.{attempt_word, decimal_below, frame_word, gpn_word, read_word}
 use Rattle.report_text.proofs.EventWords.{around}
 use Rattle.report_text.proofs.HexLaws.{hex_again}
 
--- none of these bytes is the separator
-abbrev HasNo : ℕ → List ℕ → Type 0
-HasNo separator bytes = AllByRecursion (λ b. (b == separator) ≡ false) bytes
-
-same : (n : ℕ) → (n == n) ≡ true
-same n = grind (arith, nat_tests)
-
-first_at : (c : ℕ) (before after : List ℕ) → HasNo c before → position_or_len (λ b. b == c) (before ++ c ∷ after) ≡ length before
-first_at c [] after none = rw (same c) refl
-first_at c (b ∷ before) after none = rw none.0 (omega (arith, first_at c before after none.1))
-
-pub cut_again : (c : ℕ) (before after : List ℕ) → HasNo c before → cut_at c (before ++ c ∷ after) ≡ Some (before, after)
-cut_again c before after none =
-    let long = length-append before (c ∷ after) in
-    let near : nat_lt (length before) (length (before ++ c ∷ after)) ≡ true = grind (arith, nat_tests, long) in
-    rw (first_at c before after none, near) (rw (take-append_seam before (c ∷ after), drop-append-add before (c ∷ after) 1) refl)
-
-both : (a b : Bool) → (a && b) ≡ true → (a ≡ true) × (b ≡ true)
-both true b e = (refl, e)
-both false b e = absurd (cc)
-
-apart : (t : ℕ → Bool) (c : ℕ) → ((b : ℕ) → t b ≡ true → (b == c) ≡ false) → (ds : List ℕ) → list_all t ds ≡ true → HasNo c ds
-apart t c out [] all = tt
-apart t c out (d ∷ ds) all = let k = both (t d) (list_all t ds) all in (out d k.0, apart t c out ds k.1)
-
 -- digits have no dot and no colon
 no_dot : (n : ℕ) → n < 2 ^ 64 → HasNo 46 (decimal n)
-no_dot n h = apart is_decimal_digit 46 (λ b is. grind (arith, nat_tests, is)) (decimal n) (digits_only n h)
+no_dot n h = all_apart is_decimal_digit 46 (λ b is. grind (arith, nat_tests, is)) (decimal n) (digits_only n h)
 
 no_colon : (n : ℕ) → n < 2 ^ 64 → HasNo 58 (decimal n)
-no_colon n h = apart is_decimal_digit 58 (λ b is. grind (arith, nat_tests, is)) (decimal n) (digits_only n h)
+no_colon n h = all_apart is_decimal_digit 58 (λ b is. grind (arith, nat_tests, is)) (decimal n) (digits_only n h)
 
 hex_no_colon : (n : ℕ) → n < 2 ^ 64 → HasNo 58 (hex n)
 unfolding hex
-hex_no_colon n h = (refl, (refl, apart is_hex_digit 58 (λ b is. grind (arith, nat_tests, is)) (digits 16 false n) (hex_all n h)))
+hex_no_colon n h =
+    let P : ℕ → Type 0 = λ b. (b == 58) ≡ false in
+    let ds : List ℕ = digits 16 false n in
+    All-cons P 48 (120 ∷ ds) refl (All-cons P 120 ds refl (all_apart is_hex_digit 58 (λ b is. grind (arith, nat_tests, is)) ds (hex_all n h)))
 
 pub decimal_below_again : (end n : ℕ) → n < end → n < 2 ^ 64 → decimal_below end (decimal n) ≡ Ok n
 unfolding decimal_below

@@ -1,17 +1,17 @@
 -- The first two lines of a scenario, its lines of orders and its last line are read again.
 use Rattle.std.proofs.Common.{◌≡◌, ◌≢◌, ℕ, zero, suc, ◌-◌, ◌^◌, ◌<◌, ◌≤◌, Bool, true, false, List, [], ◌∷◌, ◌++◌, length, take, drop, refl, sym, ◌∙◌, ap, subst, append_assoc, append-nil, arith, length-append}
 use Rattle.std.specs.Prelude.{Some, Ok, codes, decimal, not, nat_le, nat_lt, ◌==◌, ◌&&◌, bytes_eq}
-use Rattle.std.specs.List.{AllByRecursion, list_all, position_or_len}
-use Rattle.std.proofs.Math.Seq.{take-append_seam, drop-append-add}
+use Rattle.std.specs.List.{AllByRecursion}
+use Rattle.std.proofs.Math.Nat.{min-le_left}
 use Rattle.std.proofs.lemmas.Bool.Decides.{nat_tests}
 use Rattle.std.proofs.lemmas.Fmt.{decimal_digit}
-use Rattle.std.proofs.lemmas.List.{length-drop, take-append-drop}
+use Rattle.std.proofs.lemmas.List.{length-drop, length-take, take-append-drop}
 use Rattle.std.proofs.lemmas.List.Folds.{list_all-append}
 use Rattle.snp_model.specs.declared.reading.Quantity.TheVariants.{Regions}
 use Rattle.snp_model.specs.declared.scenario.Scenario.{Scenario}
 use Rattle.snp_model.specs.declared.scenario.Turn.{Turn}
 use Rattle.snp_model.specs.Limits.{most}
-use Rattle.snp_model.specs.Lines.{cut_at, is_decimal_digit, is_row, word}
+use Rattle.snp_model.specs.Lines.{is_decimal_digit, is_row, word}
 use Rattle.snp_model.specs.Reading.{Made, nothing, reading, closed, Makes, add_order, add_regions, add_words, fit, fit_line, fit_words, is_passed_over, turns_count}
 use Rattle.snp_model.specs.ScenarioLines.{before_actors, before_orders, before_pages, before_words, first_scenario, is_order_row, order_row, regions_row, turn_from, turn_of, turns_after, version_of, version_row}
 use Rattle.snp_model.specs.ScenarioText.{head_lines, order_lines, order_lines_of, turn_words}
@@ -20,30 +20,14 @@ use Rattle.snp_model.specs.Spelling.{joined}
 use Rattle.snp_model.proofs.AttemptLaws.{turns_append}
 use Rattle.snp_model.proofs.SoundLaws.{all_take}
 use Rattle.script_text.proofs.ItemAgain.{ranged_decimal}
+use Rattle.script_text.proofs.PartsLaws.{HasNo, all_apart, cut_again}
 use Rattle.script_text.proofs.SpellingLaws.{IsWord, is_graphic, decimal_again, decimal_word, digits_only, line_plain, words_again}
 use Rattle.scenario_text.proofs.MakesAgain.{more_make, one_makes, said_fits}
 use Rattle.scenario_text.proofs.NamedLines.{named}
 
--- none of these bytes is the star
-abbrev HasNoStar : List ℕ → Type 0
-HasNoStar bytes = AllByRecursion (λ b. (b == 42) ≡ false) bytes
-
-first_star : (before after : List ℕ) → HasNoStar before → position_or_len (λ b. b == 42) (before ++ 42 ∷ after) ≡ length before
-first_star [] after none = refl
-first_star (b ∷ before) after none = rw none.0 (omega (arith, first_star before after none.1))
-
-cut_again : (before after : List ℕ) → HasNoStar before → cut_at 42 (before ++ 42 ∷ after) ≡ Some (before, after)
-cut_again before after none =
-    let long = length-append before (42 ∷ after) in
-    let near : nat_lt (length before) (length (before ++ 42 ∷ after)) ≡ true = grind (arith, nat_tests, long) in
-    rw (first_star before after none, near) (rw (take-append_seam before (42 ∷ after), drop-append-add before (42 ∷ after) 1) refl)
-
-digits_no_star : (ds : List ℕ) → list_all is_decimal_digit ds ≡ true → HasNoStar ds
-digits_no_star [] all = tt
-digits_no_star (d ∷ ds) all =
-    let first : (d == 42) ≡ false = grind (arith, nat_tests, all) in
-    let others : list_all is_decimal_digit ds ≡ true = grind (arith, nat_tests, all) in
-    (first, digits_no_star ds others)
+-- digits have no star
+no_star : (n : ℕ) → n < 2 ^ 64 → HasNo 42 (decimal n)
+no_star n h = all_apart is_decimal_digit 42 (λ b is. grind (arith, nat_tests, is)) (decimal n) (digits_only n h)
 
 -- a run
 turn_again : (turn : Turn) → IsTurn turn → turn_of (decimal turn.actor ++ 42 ∷ decimal turn.count) ≡ Ok turn
@@ -53,7 +37,7 @@ turn_again turn is =
     let least = is.count_some in
     let most = is.count_most in
     let within : (nat_lt turn.actor (2 ^ 32) && (nat_le 1 turn.count && nat_le turn.count 262144)) ≡ true = grind (arith, nat_tests, actor, least, most) in
-    rw (cut_again (decimal turn.actor) (decimal turn.count) (digits_no_star (decimal turn.actor) (digits_only turn.actor (omega (arith, actor)))), decimal_again turn.actor (omega (arith, actor)), decimal_again turn.count (omega (arith, most)), within) refl
+    rw (cut_again 42 (decimal turn.actor) (decimal turn.count) (no_star turn.actor (omega (arith, actor))), decimal_again turn.actor (omega (arith, actor)), decimal_again turn.count (omega (arith, most)), within) refl
 
 -- the runs of a line, behind those that were read before
 turns_again : (before turns : List Turn) → AllByRecursion IsTurn turns → turns_after before (turn_words turns) ≡ Ok (before ++ turns)
@@ -130,12 +114,6 @@ all_drop P (suc k) [] all = tt
 all_drop P zero (x ∷ xs) all = all
 all_drop P (suc k) (x ∷ xs) all = all_drop P k xs all.1
 
-take_short : {X : Type 0} (k : ℕ) (xs : List X) → length (take k xs) ≤ k
-take_short zero [] = omega arith
-take_short (suc k) [] = omega arith
-take_short zero (x ∷ xs) = omega arith
-take_short (suc k) (x ∷ xs) = omega (arith, take_short k xs)
-
 -- the same scenario, as no turn is added
 no_more : (c : Scenario) → reading c ≡ reading (record c { order = c.order ++ [] })
 no_more c = ap (λ (ts : List Turn). reading (record c { order = ts })) (sym (append-nil c.order))
@@ -153,8 +131,9 @@ orders_from (suc room) c (turn ∷ turns) short some are few =
     let whole : next.order ++ others ≡ c.order ++ turn ∷ turns = append_assoc c.order line others ∙ ap (λ (ts : List Turn). c.order ++ turn ∷ ts) (take-append-drop 15 turns) in
     let all : turns_count (next.order ++ others) ≤ 262144 = omega (arith, few, ap turns_count whole) in
     let this : turns_count next.order ≤ 262144 = omega (arith, all, turns_append next.order others) in
+    let short_line : length (take 15 turns) ≤ 15 = omega (arith, length-take 15 turns, min-le_left 15 (length turns)) in
     let behind = orders_from room next others (omega (arith, short, length-drop 15 turns)) some (all_drop IsTurn 15 turns are.1) all in
-    (reading next, order_fits c turn (take 15 turns) (take_short 15 turns) some (are.0, all_take IsTurn turns 15 are.1) this, subst (λ (ts : List Turn). Makes (reading next) (order_lines_of room others) (reading (record c { order = ts }))) whole behind)
+    (reading next, order_fits c turn (take 15 turns) short_line some (are.0, all_take IsTurn turns 15 are.1) this, subst (λ (ts : List Turn). Makes (reading next) (order_lines_of room others) (reading (record c { order = ts }))) whole behind)
 
 -- the lines of orders
 pub orders_make : (c : Scenario) (turns : List Turn) → c.regions ≢ 0 → c.order ≡ [] → AllByRecursion IsTurn turns → turns_count turns ≤ 262144

@@ -1,10 +1,9 @@
 -- Lines without a line feed, each with one behind it, are read as these lines; and no line of a scenario has one.
 use Rattle.std.proofs.Common.{◌≡◌, ℕ, zero, suc, ◌+◌, ◌≤◌, true, false, cond, List, [], ◌∷◌, ◌++◌, length, refl, ◌∙◌, ap, arith}
 use Rattle.std.specs.Prelude.{Ok, Err, codes, ◌==◌}
-use Rattle.std.specs.List.{All, AllByRecursion, list_all}
+use Rattle.std.specs.List.{AllByRecursion, list_all}
 use Rattle.std.proofs.lemmas.Bool.{and_parts}
 use Rattle.std.proofs.lemmas.Bool.Decides.{nat_tests}
-use Rattle.std.proofs.lemmas.List.Elements.{All-nil, All-cons}
 use Rattle.std.proofs.lemmas.List.Splits.{slice_split_at}
 use Rattle.snp_model.specs.declared.item.Line.{Line}
 use Rattle.snp_model.specs.declared.scenario.Actor.{Actor}
@@ -20,12 +19,13 @@ use Rattle.snp_model.specs.Reading.{Made, nothing, reading, closed, Makes, IsTex
 use Rattle.snp_model.specs.ScenarioText.{text_of, guest_line, guest_lines, page_line, page_lines, word_line, word_lines, actor_line, actor_lines, item_lines, order_lines, order_lines_of, head_lines, scenario_lines}
 use Rattle.snp_model.proofs.LineLaws.{select}
 use Rattle.snp_model.proofs.PairLaws.{each_append}
+use Rattle.script_text.proofs.PartsLaws.{HasNo, all_apart}
 use Rattle.scenario_text.proofs.ItemsAgain.{line_begins}
 use Rattle.scenario_text.proofs.NamedLines.{is_unnamed, named}
 
 -- a line without a line feed; 10 is the line feed
 abbrev pub HasNoFeed : List ℕ → Type 0
-HasNoFeed line = All (λ b. (b == 10) ≡ false) line
+HasNoFeed line = HasNo 10 line
 
 text_parts : (lines : List (List ℕ)) → AllByRecursion HasNoFeed lines → parts_at 10 (text_of lines) ≡ lines ++ [] ∷ []
 unfolding text_of
@@ -39,11 +39,7 @@ text_is lines none short = record { short = short; parts = text_parts lines none
 
 -- printable bytes are no line feed
 no_feed : (line : List ℕ) → list_all is_printable line ≡ true → HasNoFeed line
-no_feed [] all = All-nil (λ b. (b == 10) ≡ false)
-no_feed (b ∷ line) all =
-    let first : (b == 10) ≡ false = grind (arith, nat_tests, all) in
-    let others : list_all is_printable line ≡ true = grind (arith, nat_tests, all) in
-    All-cons (λ c. (c == 10) ≡ false) b line first (no_feed line others)
+no_feed line all = all_apart is_printable 10 (λ b printable. grind (arith, nat_tests, printable)) line all
 
 -- a line that isn't passed over
 abbrev pub IsRead : List ℕ → Type 0

@@ -11,7 +11,7 @@ use Rattle.snp_model.specs.Lines.{digit_value, is_hex_digit, value_after}
 use Rattle.snp_model.specs.Metadata.{AreBytes}
 use Rattle.snp_model.specs.ScenarioLines.{key_byte}
 use Rattle.script_text.proofs.HexDigits.{digits_step}
-use Rattle.script_text.proofs.SpellingLaws.{IsWord, is_graphic}
+use Rattle.script_text.proofs.SpellingLaws.{IsWord, all_pass, is_graphic}
 
 -- one digit
 pub glyph : (d : ℕ) → d < 16 → (digit_value (digit_glyph false d) ≡ d) × (is_hex_digit (digit_glyph false d) ≡ true) × (0 < d → 48 < digit_glyph false d)
@@ -73,12 +73,8 @@ hex_digits (suc k) n few small =
     ]
 
 -- hex digits are bytes of words
-pub hex_graphic : (ds : List ℕ) → list_all is_hex_digit ds ≡ true → IsWord ds
-hex_graphic [] all = refl
-hex_graphic (d ∷ ds) all =
-    let first : is_graphic d ≡ true = grind (arith, nat_tests, all) in
-    let others : list_all is_hex_digit ds ≡ true = grind (arith, nat_tests, all) in
-    rw first (hex_graphic ds others)
+hex_graphic : (ds : List ℕ) → list_all is_hex_digit ds ≡ true → IsWord ds
+hex_graphic ds all = all_pass is_hex_digit is_graphic (λ d is. grind (arith, nat_tests, is)) ds all
 
 pub hex_all : (n : ℕ) → n < 2 ^ 64 → list_all is_hex_digit (digits 16 false n) ≡ true
 hex_all n h = (hex_digits 15 n (omega arith) h).all

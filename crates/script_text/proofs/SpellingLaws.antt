@@ -1,10 +1,10 @@
 -- Words that are written are read again: numbers, and the words of a line.
 use Rattle.std.proofs.Common.{◌≡◌, ℕ, zero, suc, ◌+◌, ◌-◌, ◌*◌, ◌^◌, ◌<◌, ◌≤◌, Bool, true, false, cond, List, [], ◌∷◌, ◌++◌, length, get_or, refl, sym, ◌∙◌, ap, append_assoc, append-nil, arith}
 use Rattle.std.specs.Prelude.{Ok, Err, decimal, nat_le, nat_lt, ◌==◌, ◌&&◌}
-use Rattle.std.specs.List.{All, AllByRecursion, list_all}
+use Rattle.std.specs.List.{AllByRecursion, list_all}
+use Rattle.std.proofs.lemmas.Bool.{and_parts}
 use Rattle.std.proofs.lemmas.Bool.Decides.{nat_tests}
 use Rattle.std.proofs.lemmas.Fmt.{decimal_digit, digits_decimal, digits_value-decimal, decimal_nonempty, first_decimal}
-use Rattle.std.proofs.lemmas.List.Elements.{All-nil, All-cons}
 use Rattle.std.proofs.lemmas.List.Folds.{list_all-append}
 use Rattle.std.proofs.lemmas.List.Splits.{slice_split_at, slice_split_none}
 use Rattle.std.proofs.lemmas.Str.Parse.{IsDigitsTest, FoldsDigits, IsNumeralModel, numerals_by_fold}
@@ -12,6 +12,7 @@ use Rattle.snp_model.specs.Lines as lines
 use Rattle.snp_model.specs.Lines.{◌>>=◌, parts_at, words_of, is_plain, is_decimal, is_decimal_digit, is_prefixed, is_printable, digit_value, value_after, decimal_of, number_of, number, ranged, below, multiple}
 use Rattle.snp_model.specs.Spelling.{behind, joined, numbers}
 use Rattle.snp_model.proofs.LineLaws.{bind_ok, guard_ok, number_ok}
+use Rattle.script_text.proofs.PartsLaws.{HasNo, all_apart}
 
 -- the tests and the value of digits are those of std
 tells : IsDigitsTest (λ ds. list_all is_decimal_digit ds ≡ true)
@@ -105,22 +106,18 @@ is_graphic b = nat_le 0x21 b && nat_le b 0x7e
 abbrev pub IsWord : List ℕ → Type 0
 IsWord w = list_all is_graphic w ≡ true
 
-digits_graphic : (ds : List ℕ) → list_all is_decimal_digit ds ≡ true → IsWord ds
-digits_graphic [] all = refl
-digits_graphic (d ∷ ds) all =
-    let first : is_graphic d ≡ true = grind (arith, nat_tests, all) in
-    let others : list_all is_decimal_digit ds ≡ true = grind (arith, nat_tests, all) in
-    rw first (digits_graphic ds others)
+-- what passes a test passes a weaker one
+pub all_pass : (strong weak : ℕ → Bool) → ((b : ℕ) → strong b ≡ true → weak b ≡ true) → (bytes : List ℕ) → list_all strong bytes ≡ true → list_all weak bytes ≡ true
+all_pass strong weak weaker [] all = refl
+all_pass strong weak weaker (b ∷ bytes) all =
+    let are = and_parts (strong b) (list_all strong bytes) all in
+    rw (weaker b are.0) (all_pass strong weak weaker bytes are.1)
 
 pub decimal_word : (n : ℕ) → n < 2 ^ 64 → IsWord (decimal n)
-decimal_word n h = digits_graphic (decimal n) (digits_only n h)
+decimal_word n h = all_pass is_decimal_digit is_graphic (λ d is. grind (arith, nat_tests, is)) (decimal n) (digits_only n h)
 
-no_spaces : (w : List ℕ) → IsWord w → All (λ b. (b == 32) ≡ false) w
-no_spaces [] is = All-nil (λ b. (b == 32) ≡ false)
-no_spaces (b ∷ w) is =
-    let first : (b == 32) ≡ false = grind (arith, nat_tests, is) in
-    let others : IsWord w = grind (arith, nat_tests, is) in
-    All-cons (λ c. (c == 32) ≡ false) b w first (no_spaces w others)
+no_spaces : (w : List ℕ) → IsWord w → HasNo 32 w
+no_spaces w is = all_apart is_graphic 32 (λ b graphic. grind (arith, nat_tests, graphic)) w is
 
 -- the words of a line are those that it was made of
 pub words_again : (w : List ℕ) (ws : List (List ℕ)) → IsWord w → AllByRecursion IsWord ws → words_of (w ++ behind ws) ≡ w ∷ ws
@@ -128,12 +125,8 @@ words_again w [] is are = ap words_of (append-nil w) ∙ slice_split_none (λ b.
 words_again w (v ∷ vs) is are =
     slice_split_at (λ b. b == 32) w 32 (v ++ behind vs) (no_spaces w is) refl ∙ ap (λ (others : List (List ℕ)). w ∷ others) (words_again v vs are.0 are.1)
 
-pub word_printable : (w : List ℕ) → IsWord w → list_all is_printable w ≡ true
-word_printable [] is = refl
-word_printable (b ∷ w) is =
-    let first : is_printable b ≡ true = grind (arith, nat_tests, is) in
-    let others : IsWord w = grind (arith, nat_tests, is) in
-    rw first (word_printable w others)
+word_printable : (w : List ℕ) → IsWord w → list_all is_printable w ≡ true
+word_printable w is = all_pass is_graphic is_printable (λ b graphic. grind (arith, nat_tests, graphic)) w is
 
 pub line_printable : (w : List ℕ) (ws : List (List ℕ)) → IsWord w → AllByRecursion IsWord ws → list_all is_printable (w ++ behind ws) ≡ true
 line_printable w [] is are = ap (list_all is_printable) (append-nil w) ∙ word_printable w is
