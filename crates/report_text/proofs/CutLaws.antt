@@ -1,6 +1,6 @@
 -- Two numbers with a separator between them are read again, and single numbers below an end.
-use Rattle.std.proofs.Common.{◌≡◌, ℕ, ◌^◌, ◌<◌, Bool, true, false, List, [], ◌∷◌, ◌++◌, length, refl, ◌∙◌, arith, length-append}
-use Rattle.std.specs.Prelude.{Option, Some, None, Ok, bytes_eq, codes, decimal, nat_lt, ◌==◌, ◌&&◌, IfSome}
+use Rattle.std.proofs.Common.{◌≡◌, ℕ, ◌^◌, ◌<◌, true, false, List, ◌∷◌, refl, ◌∙◌, arith}
+use Rattle.std.specs.Prelude.{Option, Some, None, Ok, bytes_eq, codes, decimal, nat_lt, ◌==◌, IfSome}
 use Rattle.std.specs.Fmt.{digits}
 use Rattle.std.proofs.lemmas.Bool.Decides.{nat_tests}
 use Rattle.std.proofs.lemmas.List.Elements.{All-cons}

@@ -13,7 +13,6 @@ use Rattle.snp_model.specs.declared.event.Outcome.TheVariants.{Loaded, Opaque, S
 use Rattle.snp_model.specs.declared.event.Event.{Event}
 use Rattle.snp_model.specs.EventText.{event_text}
 use Rattle.snp_model.specs.Lines as lines
-use Rattle.snp_model.specs.Lines.{cut_at, words_of}
 use Rattle.snp_model.specs.Spelling.{joined}
 use Rattle.snp_model.proofs.PairLaws.{each_append}
 use Rattle.script_text.proofs.AgainLaws.{size_again, size_spelled}

@@ -6,7 +6,7 @@ use Rattle.std.proofs.lemmas.Bool.Decides.{nat_tests}
 use Rattle.snp_model.specs.EventText.{hex}
 use Rattle.snp_model.specs.Lines.{hex_of, is_hex, is_prefixed, number, number_of}
 use Rattle.script_text.proofs.HexWords.{IsHexOf, hex_digits}
-use Rattle.report_text.specs.EventLines.{hex_below, hex_word, is_fewest}
+use Rattle.report_text.specs.EventLines.{hex_word, is_fewest}
 
 fewest : (n : ℕ) (ds : List ℕ) → IsHexOf 16 n ds → is_fewest (48 ∷ 120 ∷ ds) ≡ true
 fewest n ds is =
@@ -31,7 +31,3 @@ hex_again n h =
     let x : is_hex ds ≡ true = grind (arith, nat_tests, all, some, short) in
     let small : nat_lt n (2 ^ 64) ≡ true = grind (arith, nat_tests, h) in
     rw (f, p, x, is.value, small) refl
-
-pub hex_below_again : (end n : ℕ) → n < end → n < 2 ^ 64 → hex_below end (hex n) ≡ Ok n
-unfolding hex_below
-hex_below_again end n below small = let b : nat_lt n end ≡ true = grind (arith, nat_tests, below) in rw (hex_again n small, b) refl

@@ -27,12 +27,6 @@ is_fewest w = nat_le 3 (length w) && is_prefixed w && ((length w == 3) || not (s
 unfoldable pub hex_word : List ℕ → Result ℕ Reason
 hex_word w = if is_fewest w then number w else Err Number
 
--- the same, below an end
-unfoldable pub hex_below : ℕ → List ℕ → Result ℕ Reason
-hex_below end w = do
-  n ← hex_word w
-  if nat_lt n end then Ok n else Err Range
-
 -- `ITEM.ATTEMPT`; 46 is the dot
 abbrev pub attempt_parts : Option (List ℕ × List ℕ) → Result (ℕ × ℕ) Reason
 attempt_parts None = Err Form

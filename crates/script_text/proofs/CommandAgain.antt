@@ -4,7 +4,6 @@ use Rattle.std.specs.Prelude.{Ok, decimal, codes}
 use Rattle.snp_model.specs.declared.command.Command.{Command}
 use Rattle.snp_model.specs.declared.command.Command.TheVariants.{GctxCreate, Activate, LaunchStart, LaunchUpdate, LaunchFinish, MdInit, PageMove, SwapOut, SwapIn, Reclaim, MdOut, MdIn, MdRootOut, MdRootIn}
 use Rattle.snp_model.specs.declared.item.Item.{Item}
-use Rattle.snp_model.specs.declared.item.Item.TheVariants.{Access, Psmash, Pvalidate, Rmpadjust, Rmpupdate, Skip}
 use Rattle.snp_model.specs.declared.item.Item.TheVariants as items
 use Rattle.snp_model.specs.declared.item.Line.{Line}
 use Rattle.snp_model.specs.declared.scenario.Role.TheVariants.{Firmware}

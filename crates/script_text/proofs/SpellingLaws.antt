@@ -9,7 +9,7 @@ use Rattle.std.proofs.lemmas.List.Folds.{list_all-append}
 use Rattle.std.proofs.lemmas.List.Splits.{slice_split_at, slice_split_none}
 use Rattle.std.proofs.lemmas.Str.Parse.{IsDigitsTest, FoldsDigits, IsNumeralModel, numerals_by_fold}
 use Rattle.snp_model.specs.Lines as lines
-use Rattle.snp_model.specs.Lines.{◌>>=◌, parts_at, words_of, is_plain, is_decimal, is_decimal_digit, is_prefixed, is_printable, digit_value, value_after, decimal_of, number_of, number, ranged, below, multiple}
+use Rattle.snp_model.specs.Lines.{words_of, is_plain, is_decimal, is_decimal_digit, is_prefixed, is_printable, digit_value, value_after, decimal_of, number_of, number, below}
 use Rattle.snp_model.specs.Spelling.{behind, joined, numbers}
 use Rattle.snp_model.proofs.LineLaws.{bind_ok, guard_ok, number_ok}
 use Rattle.script_text.proofs.PartsLaws.{HasNo, all_apart}
@@ -65,10 +65,6 @@ decimal_again n h =
     let small : nat_lt n (2 ^ 64) ≡ true = grind (arith, nat_tests, h) in
     rw (canonical n h, digits_value-decimal own n h, small) refl
 
--- the number of a word is read again
-pub number_again : (w : List ℕ) (n : ℕ) → number w ≡ Ok n → number (decimal n) ≡ Ok n
-number_again w n h = number_decimal n (number_ok w n h)
-
 -- a number within bounds is a number
 pub below_number : (end : ℕ) (w : List ℕ) (n : ℕ) → below end w ≡ Ok n → (number w ≡ Ok n) × (nat_lt n end ≡ true)
 unfolding below
@@ -77,27 +73,8 @@ below_number end w n h =
     let one = guard_ok (nat_lt step.0 end) step.0 n _ step.2 in
     (step.1 ∙ ap (λ (k : ℕ). Ok k) one.1, ap (λ (k : ℕ). nat_lt k end) (sym one.1) ∙ one.0)
 
-pub below_again : (end : ℕ) (w : List ℕ) (n : ℕ) → below end w ≡ Ok n → below end (decimal n) ≡ Ok n
-unfolding below
-below_again end w n h = let is = below_number end w n h in rw (number_again w n is.0, is.1) refl
-
 pub below_small : (end : ℕ) (w : List ℕ) (n : ℕ) → below end w ≡ Ok n → n < 2 ^ 64
 below_small end w n h = number_ok w n (below_number end w n h).0
-
-pub ranged_number : (low high : ℕ) (w : List ℕ) (n : ℕ) → ranged low high w ≡ Ok n → (number w ≡ Ok n) × ((nat_le low n && nat_le n high) ≡ true)
-unfolding ranged
-ranged_number low high w n h =
-    let test : ℕ → Bool = λ k. nat_le low k && nat_le k high in
-    let step = bind_ok (number w) (λ (k : ℕ). cond (test k) (Ok k) (Err _)) n h in
-    let one = guard_ok (test step.0) step.0 n _ step.2 in
-    (step.1 ∙ ap (λ (k : ℕ). Ok k) one.1, ap test (sym one.1) ∙ one.0)
-
-pub ranged_again : (low high : ℕ) (w : List ℕ) (n : ℕ) → ranged low high w ≡ Ok n → ranged low high (decimal n) ≡ Ok n
-unfolding ranged
-ranged_again low high w n h = let is = ranged_number low high w n h in rw (number_again w n is.0, is.1) refl
-
-pub ranged_small : (low high : ℕ) (w : List ℕ) (n : ℕ) → ranged low high w ≡ Ok n → n < 2 ^ 64
-ranged_small low high w n h = number_ok w n (ranged_number low high w n h).0
 
 -- bytes of a word: printable, and no space
 abbrev pub is_graphic : ℕ → Bool
