@@ -148,6 +148,28 @@ fn put_entry(out: &mut [u8], at: usize, metadata: u64, entry: u8) -> usize
     put_argument(out, end, u64::from(entry))
 }
 
+// Writes a command of two frames of a guest, and of an entry of a metadata page.
+#[tactic(auto, using(crate::proofs::SpellingLaws::joined_more))]
+fn put_sealing(
+    out: &mut [u8],
+    at: usize,
+    name: &[u8],
+    guest: u8,
+    source: u64,
+    target: u64,
+    metadata: u64,
+    entry: u8,
+) -> usize
+    requires name { length name.now ≤ 8 }
+    requires room { at + 141 ≤ length out.old }
+    ensures end { result ≤ at + 141 }
+    ensures text { take result out.new ≡ take at out.old
+        ++ joined (name.now ∷ decimal guest ∷ decimal source ∷ decimal target ∷ decimal metadata ∷ decimal entry ∷ []) }
+{
+    let end = put_move(out, at, name, guest, source, target);
+    put_entry(out, end, metadata, entry)
+}
+
 // Writes a launch of a page.
 #[tactic(auto, unfolding(snp_model::specs::Spelling::command_words))]
 fn put_launch(
@@ -232,113 +254,8 @@ fn put_reclaim(out: &mut [u8], at: usize, frame: u64) -> usize
     put_named(out, at, b"page_reclaim ", frame)
 }
 
-// Writes a page_move.
-#[tactic(auto, unfolding(snp_model::specs::Spelling::command_words))]
-fn put_page_move(out: &mut [u8], at: usize, guest: u8, source: u64, target: u64) -> usize
-    requires { at + 141 ≤ length out.old }
-    ensures end { result ≤ at + 141 }
-    ensures text { take result out.new ≡ take at out.old ++ joined (command_words (Command.PageMove guest source target)) }
-{
-    put_move(out, at, b"page_move", guest, source, target)
-}
-
-// Writes an md_root_out.
-#[tactic(auto, unfolding(snp_model::specs::Spelling::command_words))]
-fn put_root_out(out: &mut [u8], at: usize, guest: u8, source: u64, target: u64) -> usize
-    requires { at + 141 ≤ length out.old }
-    ensures end { result ≤ at + 141 }
-    ensures text { take result out.new ≡ take at out.old ++ joined (command_words (Command.MdRootOut guest source target)) }
-{
-    put_move(out, at, b"md_root_out", guest, source, target)
-}
-
-// Writes an md_root_in.
-#[tactic(auto, unfolding(snp_model::specs::Spelling::command_words))]
-fn put_root_in(out: &mut [u8], at: usize, guest: u8, source: u64, target: u64) -> usize
-    requires { at + 141 ≤ length out.old }
-    ensures end { result ≤ at + 141 }
-    ensures text { take result out.new ≡ take at out.old ++ joined (command_words (Command.MdRootIn guest source target)) }
-{
-    put_move(out, at, b"md_root_in", guest, source, target)
-}
-
-// Writes a swap_out.
-#[tactic(auto, unfolding(snp_model::specs::Spelling::command_words))]
-fn put_swap_out(
-    out: &mut [u8],
-    at: usize,
-    guest: u8,
-    source: u64,
-    target: u64,
-    metadata: u64,
-    entry: u8,
-) -> usize
-    requires { at + 141 ≤ length out.old }
-    ensures end { result ≤ at + 141 }
-    ensures text { take result out.new ≡ take at out.old ++ joined (command_words (Command.SwapOut guest source target metadata entry)) }
-{
-    let end = put_move(out, at, b"swap_out", guest, source, target);
-    put_entry(out, end, metadata, entry)
-}
-
-// Writes a swap_in.
-#[tactic(auto, unfolding(snp_model::specs::Spelling::command_words))]
-fn put_swap_in(
-    out: &mut [u8],
-    at: usize,
-    guest: u8,
-    source: u64,
-    target: u64,
-    metadata: u64,
-    entry: u8,
-) -> usize
-    requires { at + 141 ≤ length out.old }
-    ensures end { result ≤ at + 141 }
-    ensures text { take result out.new ≡ take at out.old ++ joined (command_words (Command.SwapIn guest source target metadata entry)) }
-{
-    let end = put_move(out, at, b"swap_in", guest, source, target);
-    put_entry(out, end, metadata, entry)
-}
-
-// Writes an md_out.
-#[tactic(auto, unfolding(snp_model::specs::Spelling::command_words))]
-fn put_metadata_out(
-    out: &mut [u8],
-    at: usize,
-    guest: u8,
-    source: u64,
-    target: u64,
-    metadata: u64,
-    entry: u8,
-) -> usize
-    requires { at + 141 ≤ length out.old }
-    ensures end { result ≤ at + 141 }
-    ensures text { take result out.new ≡ take at out.old ++ joined (command_words (Command.MdOut guest source target metadata entry)) }
-{
-    let end = put_move(out, at, b"md_out", guest, source, target);
-    put_entry(out, end, metadata, entry)
-}
-
-// Writes an md_in.
-#[tactic(auto, unfolding(snp_model::specs::Spelling::command_words))]
-fn put_metadata_in(
-    out: &mut [u8],
-    at: usize,
-    guest: u8,
-    source: u64,
-    target: u64,
-    metadata: u64,
-    entry: u8,
-) -> usize
-    requires { at + 141 ≤ length out.old }
-    ensures end { result ≤ at + 141 }
-    ensures text { take result out.new ≡ take at out.old ++ joined (command_words (Command.MdIn guest source target metadata entry)) }
-{
-    let end = put_move(out, at, b"md_in", guest, source, target);
-    put_entry(out, end, metadata, entry)
-}
-
 // Writes a command.
+#[tactic(auto, unfolding(snp_model::specs::Spelling::command_words))]
 fn put_command(out: &mut [u8], at: usize, command: &Command) -> usize
     requires { at + 141 ≤ length out.old }
     ensures end { result ≤ at + 141 }
@@ -362,21 +279,21 @@ fn put_command(out: &mut [u8], at: usize, command: &Command) -> usize
             guest,
             source,
             target,
-        } => put_page_move(out, at, guest, source, target),
+        } => put_move(out, at, b"page_move", guest, source, target),
         Command::SwapOut {
             guest,
             source,
             target,
             metadata,
             entry,
-        } => put_swap_out(out, at, guest, source, target, metadata, entry),
+        } => put_sealing(out, at, b"swap_out", guest, source, target, metadata, entry),
         Command::SwapIn {
             guest,
             source,
             target,
             metadata,
             entry,
-        } => put_swap_in(out, at, guest, source, target, metadata, entry),
+        } => put_sealing(out, at, b"swap_in", guest, source, target, metadata, entry),
         Command::Reclaim { frame } => put_reclaim(out, at, frame),
         Command::MdOut {
             guest,
@@ -384,24 +301,24 @@ fn put_command(out: &mut [u8], at: usize, command: &Command) -> usize
             target,
             metadata,
             entry,
-        } => put_metadata_out(out, at, guest, source, target, metadata, entry),
+        } => put_sealing(out, at, b"md_out", guest, source, target, metadata, entry),
         Command::MdIn {
             guest,
             source,
             target,
             metadata,
             entry,
-        } => put_metadata_in(out, at, guest, source, target, metadata, entry),
+        } => put_sealing(out, at, b"md_in", guest, source, target, metadata, entry),
         Command::MdRootOut {
             guest,
             source,
             target,
-        } => put_root_out(out, at, guest, source, target),
+        } => put_move(out, at, b"md_root_out", guest, source, target),
         Command::MdRootIn {
             guest,
             source,
             target,
-        } => put_root_in(out, at, guest, source, target),
+        } => put_move(out, at, b"md_root_in", guest, source, target),
     }
 }
 
