@@ -9,6 +9,7 @@ use Rattle.snp_model.specs.declared.event.Outcome.{Outcome}
 use Rattle.snp_model.specs.Journal.{actors_of}
 use Rattle.run_journal.specs.declared.short.Mark.{Mark}
 use Rattle.run_journal.specs.declared.short.Short.{Short}
+use Rattle.run_journal.specs.Outcomes.{outcomes_of}
 use Rattle.run_journal.specs.Shorts.{whole_deed, outcome_at, entry_of, entries_of, are_within, AreShorts, Keeps}
 
 -- a place is 0 or not
@@ -125,6 +126,14 @@ actor_at outcomes [] shorts k mark same h whose = absurd (omega arith)
 actor_at outcomes (m ∷ marks) [] k mark same h whose = absurd (omega arith)
 actor_at outcomes (m ∷ marks) (s ∷ shorts) zero mark same h whose = ap (λ (x : Mark). Some x.actor) (sym whose)
 actor_at outcomes (m ∷ marks) (s ∷ shorts) (suc k) mark same h whose = actor_at outcomes marks shorts k mark (omega arith) (omega arith) whose
+
+pub outcome_found : (outcomes : List Outcome) (marks : List Mark) (shorts : List Short) (k : ℕ) (mark : Mark) → length marks ≡ length shorts → k < length marks → mark ≡ get_or marks k mark
+    → slice_get (outcomes_of (entries_of outcomes marks shorts)) k ≡ Some (outcome_at outcomes mark.end)
+unfolding outcomes_of
+outcome_found outcomes [] shorts k mark same h whose = absurd (omega arith)
+outcome_found outcomes (m ∷ marks) [] k mark same h whose = absurd (omega arith)
+outcome_found outcomes (m ∷ marks) (s ∷ shorts) zero mark same h whose = ap (λ (x : Mark). let o : Option (Option Outcome) = Some (outcome_at outcomes x.end) in o) (sym whose)
+outcome_found outcomes (m ∷ marks) (s ∷ shorts) (suc k) mark same h whose = outcome_found outcomes marks shorts k mark (omega arith) (omega arith) whose
 
 pub length_entries : (outcomes : List Outcome) (marks : List Mark) (shorts : List Short) → length marks ≡ length shorts → length (entries_of outcomes marks shorts) ≡ length shorts
 length_entries outcomes [] shorts same = same

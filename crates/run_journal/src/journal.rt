@@ -1,5 +1,6 @@
 ghost use Rattle.std.specs.Prelude.{◌≡◌, ◌<◌, ◌≤◌, ◌^◌, ◌-◌, ◌==◌, [], ◌∷◌, ◌++◌, length, slice_get, vec_capacity, IfOk, Some};
 ghost use Rattle.snp_model.specs.Journal.{actors_of};
+ghost use Rattle.run_journal.specs.Outcomes.{outcomes_of};
 ghost use Rattle.run_journal.specs.Shorts.{Keeps, outcome_at};
 
 use crate::short::{Mark, Short, shortened, whole_deed};
@@ -94,6 +95,15 @@ impl Journal {
             outcome: outcome_at(&self.outcomes, mark.end),
         };
         (mark.actor, event)
+    }
+
+    /// The outcome of event k, from 0, or none where it ended no attempt.
+    #[tactic(auto, using(crate::proofs::ShortLaws::length_entries, crate::proofs::ShortLaws::within_at, crate::proofs::ShortLaws::outcome_found))]
+    pub fn outcome(&self, k: usize) -> Option<Outcome>
+        requires { k < length self.now.list }
+        ensures { slice_get (outcomes_of self.now.list) k ≡ Some result }
+    {
+        outcome_at(&self.outcomes, self.marks[k].end)
     }
 
     /// The actor of event k, from 0.
