@@ -1,6 +1,5 @@
 -- What the outcome of a command tells, clause by clause.
-use Rattle.std.proofs.Common.{◌≡◌, ℕ, ◌≤◌, ◌⊎◌, ◌↔◌, ◌≢◌, true, false, zero, suc, List, [], ◌∷◌, take, Option, None, Some, IfSome, OnOk, Result, Ok, Err, sym, ◌∙◌, subst, arith, inl, inr}
-use Rattle.std.proofs.lemmas.Bool.{false≢true}
+use Rattle.std.proofs.Common.{◌≡◌, ℕ, ◌≤◌, ◌⊎◌, ◌≢◌, zero, suc, List, [], ◌∷◌, take, Option, None, Some, IfSome, OnOk, Result, Ok, Err, sym, subst, arith, inl, inr}
 use Rattle.std.specs.Prelude.{codes, slice_get}
 use Rattle.snp_model.specs.declared.reading.Quantity.{Quantity}
 use Rattle.snp_model.specs.declared.reading.Quantity.TheVariants.{Bytes}

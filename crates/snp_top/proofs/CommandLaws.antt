@@ -1,5 +1,5 @@
 -- What the program's status tells, clause by clause: that of `run`, and that of another command.
-use Rattle.std.proofs.Common.{◌≡◌, ℕ, ◌≤◌, ◌⊎◌, ◌≢◌, Bool, ◌||◌, true, false, List, [], ◌∷◌, Option, None, Some, IfSome, Result, Ok, Err, refl, sym, subst, arith, inl, inr}
+use Rattle.std.proofs.Common.{◌≡◌, ℕ, ◌≤◌, ◌⊎◌, ◌≢◌, Bool, ◌||◌, true, false, List, [], Option, None, Some, IfSome, Result, Ok, Err, refl, sym, subst, arith, inl, inr}
 use Rattle.std.specs.Prelude.{codes}
 use Rattle.snp_model.specs.declared.reading.Quantity.{Quantity}
 use Rattle.snp_model.specs.declared.reading.Quantity.TheVariants.{Bytes}

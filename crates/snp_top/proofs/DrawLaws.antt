@@ -1,5 +1,5 @@
 -- What the outcome of `gen` or `drill` tells, clause by clause.
-use Rattle.std.proofs.Common.{◌≡◌, ℕ, zero, suc, ◌+◌, ◌≤◌, ◌⊎◌, ◌≢◌, List, [], Option, None, Some, Result, Ok, Err, refl, arith, inl, inr}
+use Rattle.std.proofs.Common.{◌≡◌, ℕ, ◌≤◌, ◌⊎◌, ◌≢◌, List, [], Option, None, Some, Result, Ok, Err, refl, arith, inl, inr}
 use Rattle.std.specs.Prelude.{codes}
 use Rattle.snp_model.specs.Outside.{Adds, AddsPrefix, Rose, Takes}
 use Rattle.snp_top.specs.declared.fault.CommandFault.{CommandFault}

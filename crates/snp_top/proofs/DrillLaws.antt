@@ -1,5 +1,5 @@
 -- What running the drill of a number makes, and what is told of it.
-use Rattle.std.proofs.Common.{◌≡◌, ℕ, zero, suc, ◌+◌, ◌*◌, ◌<◌, ◌≤◌, Bool, true, false, List, [], ◌∷◌, length, map, drop, Option, Some, None, refl, sym, ap, ◌∙◌, subst, arith}
+use Rattle.std.proofs.Common.{◌≡◌, ℕ, zero, suc, ◌+◌, ◌≤◌, Bool, true, false, List, [], ◌∷◌, length, drop, Option, Some, refl, sym, ap, ◌∙◌, subst, arith}
 use Rattle.std.proofs.lemmas.Bool.{cond-true, cond-false}
 use Rattle.std.proofs.lemmas.List.{length-map}
 use Rattle.std.specs.Prelude.{slice_get}
@@ -7,7 +7,8 @@ use Rattle.rand_pcg.specs.Lcg.{Lcg}
 use Rattle.snp_model.specs.declared.event.Event.{Event}
 use Rattle.snp_model.specs.declared.event.Outcome.{Outcome}
 use Rattle.snp_model.specs.declared.scenario.Scenario.{Scenario}
-use Rattle.snp_model.specs.Drill.{IsPicked, IsPickedFrom, count_where, drill_lines, drill_text, is_some_where}
+use Rattle.run_journal.specs.Outcomes.{outcomes_of}
+use Rattle.snp_model.specs.Drill.{IsPickedFrom, count_where, drill_lines, is_some_where}
 use Rattle.snp_model.specs.Ending.{lines_of, report_of}
 use Rattle.snp_model.specs.Generated.{drawn_scenario, generated, generator_of}
 use Rattle.snp_model.specs.Journal.{JournalImage}
@@ -20,7 +21,7 @@ use Rattle.snp_model.proofs.RoomLaws.{run_length}
 use Rattle.snp_model.proofs.RunLaws.{length_run}
 use Rattle.snp_model.proofs.SoundLaws.{valid_is_sound}
 use Rattle.snp_top.specs.declared.replay.Played.{Played}
-use Rattle.snp_top.specs.Drills.{IsDrilled, PlaysPicks, SaysDrill, SaysScenario}
+use Rattle.snp_top.specs.Drills.{IsDrilled, PlaysPicks, SaysDrill}
 use Rattle.drill_gen.proofs.DrawnValid.{drawn_valid}
 use Rattle.snp_top.proofs.ReplayLaws.{state_guests}
 
@@ -77,28 +78,28 @@ drill_told number played text Is drilled told holds =
     (drilled.schedule, drilled.picked, subst Is (told ∙ (λ i. drill_lines number (drilled.events i) (report_text (drilled.version i) (drilled.events i) (drilled.guests i)))) holds)
 
 -- one more event that is counted
-pub count_here : (test : Outcome → Bool) (list : List (ℕ × Event)) (k : ℕ) (entry : ℕ × Event) → slice_get list k ≡ Some entry → is_some_where test entry.1.outcome ≡ true
+pub count_here : (test : Outcome → Bool) (list : List (ℕ × Event)) (k : ℕ) (outcome : Option Outcome) → slice_get (outcomes_of list) k ≡ Some outcome → is_some_where test outcome ≡ true
     → count_where test (drop k list) ≡ count_where test (drop (k + 1) list) + 1
-unfolding count_where
-count_here test [] k entry at counts = absurd (cc)
-count_here test (e ∷ es) zero entry at counts =
-    let same : e ≡ entry = cc in
-    cond-true (is_some_where test e.1.outcome) _ _ (subst (λ (x : ℕ × Event). is_some_where test x.1.outcome ≡ true) (sym same) counts)
-count_here test (e ∷ es) (suc k) entry at counts =
+unfolding outcomes_of count_where
+count_here test [] k outcome at counts = absurd (cc)
+count_here test (e ∷ es) zero outcome at counts =
+    let same : e.1.outcome ≡ outcome = cc in
+    cond-true (is_some_where test e.1.outcome) _ _ (ap (is_some_where test) same ∙ counts)
+count_here test (e ∷ es) (suc k) outcome at counts =
     let step : suc k + 1 ≡ suc (k + 1) = omega arith in
-    count_here test es k entry at counts ∙ ap (λ (n : ℕ). count_where test (drop n (e ∷ es)) + 1) (sym step)
+    count_here test es k outcome at counts ∙ ap (λ (n : ℕ). count_where test (drop n (e ∷ es)) + 1) (sym step)
 
 -- one that isn't
-pub count_passed : (test : Outcome → Bool) (list : List (ℕ × Event)) (k : ℕ) (entry : ℕ × Event) → slice_get list k ≡ Some entry → is_some_where test entry.1.outcome ≡ false
+pub count_passed : (test : Outcome → Bool) (list : List (ℕ × Event)) (k : ℕ) (outcome : Option Outcome) → slice_get (outcomes_of list) k ≡ Some outcome → is_some_where test outcome ≡ false
     → count_where test (drop k list) ≡ count_where test (drop (k + 1) list)
-unfolding count_where
-count_passed test [] k entry at passes = absurd (cc)
-count_passed test (e ∷ es) zero entry at passes =
-    let same : e ≡ entry = cc in
-    cond-false (is_some_where test e.1.outcome) _ _ (subst (λ (x : ℕ × Event). is_some_where test x.1.outcome ≡ false) (sym same) passes)
-count_passed test (e ∷ es) (suc k) entry at passes =
+unfolding outcomes_of count_where
+count_passed test [] k outcome at passes = absurd (cc)
+count_passed test (e ∷ es) zero outcome at passes =
+    let same : e.1.outcome ≡ outcome = cc in
+    cond-false (is_some_where test e.1.outcome) _ _ (ap (is_some_where test) same ∙ passes)
+count_passed test (e ∷ es) (suc k) outcome at passes =
     let step : suc k + 1 ≡ suc (k + 1) = omega arith in
-    count_passed test es k entry at passes ∙ ap (λ (n : ℕ). count_where test (drop n (e ∷ es))) (sym step)
+    count_passed test es k outcome at passes ∙ ap (λ (n : ℕ). count_where test (drop n (e ∷ es))) (sym step)
 
 -- none is left at the end
 pub count_done : (test : Outcome → Bool) (list : List (ℕ × Event)) (n : ℕ) → n ≡ length list → count_where test (drop n list) ≡ 0

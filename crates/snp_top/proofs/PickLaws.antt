@@ -1,11 +1,11 @@
 -- Schedules that a generator picks.
-use Rattle.std.proofs.Common.{◌≡◌, ℕ, zero, suc, ◌+◌, ◌-◌, ◌*◌, ◌<◌, ◌≤◌, Bool, true, false, nat_lt, List, [], ◌∷◌, ◌++◌, length, drop, Option, Some, None, IsSomeAnd, refl, sym, ap, ◌∙◌, subst, arith, append_assoc, if◌then◌else◌}
+use Rattle.std.proofs.Common.{◌≡◌, ℕ, zero, suc, ◌+◌, ◌-◌, ◌*◌, ◌<◌, ◌≤◌, Bool, true, false, nat_lt, List, [], ◌∷◌, ◌++◌, length, drop, Option, Some, IsSomeAnd, refl, sym, ap, ◌∙◌, subst, arith, append_assoc, if◌then◌else◌}
 use Rattle.std.proofs.lemmas.Bool.{cond-true, cond-false, lt-ltb, ltb-true}
 use Rattle.std.proofs.Math.ListN.{get_or}
 use Rattle.std.proofs.lemmas.List.{append-nil, length-append}
 use Rattle.std.proofs.lemmas.Nat.{mod_below}
 use Rattle.std.proofs.lemmas.Option.{slice_get-get_or}
-use Rattle.std.specs.Prelude.{slice_get}
+use Rattle.std.specs.Prelude.{slice_get, slice_set}
 use Rattle.rand_pcg.specs.Lcg.{Lcg}
 use Rattle.rand_pcg.specs.Pcg.{pcg32}
 use Rattle.snp_model.specs.declared.event.Event.{Event}
@@ -21,7 +21,7 @@ use Rattle.snp_model.specs.Step.{after, event_of}
 use Rattle.snp_model.proofs.RoomLaws.{run_has_room}
 use Rattle.snp_model.proofs.RunLaws.{defined_none, defined_push, state_none, state_push}
 use Rattle.snp_top.specs.Drills.{PicksOn, PlaysPicks}
-use Rattle.snp_top.specs.Schedule.{AtOpening, PlaysOn}
+use Rattle.snp_top.specs.Schedule.{AtOpening}
 use Rattle.snp_top.proofs.ScheduleLaws.{plays_more, plays_none, plays_whole}
 
 -- whether a part is unfinished
@@ -63,6 +63,49 @@ pub actor_passed : (m : State) (k : ℕ) → k < length m.actors → (IsUnfinish
 actor_passed m k within finished =
     let place : k + 1 - 1 ≡ k = omega arith in
     part_passed (k + 1) m.actors k within (λ some. finished (omega arith, subst (λ (n : ℕ). IsSomeAnd (slice_get m.actors n) has_line) (sym place) some))
+
+-- a part that isn't finished goes on
+part_goes_on : (first : ℕ) (parts : List ActorPart) (k : ℕ) (part : ActorPart) → IsSomeAnd (slice_get parts k) has_line → IsSomeAnd (slice_get (slice_set parts k part) k) has_line
+    → unfinished_from first (slice_set parts k part) ≡ unfinished_from first parts
+unfolding unfinished_from
+part_goes_on first [] k part was is = absurd was
+part_goes_on first (old ∷ parts) zero part was is =
+    cond-true (nat_lt part.item (length part.script)) _ _ (lt-ltb part.item (length part.script) is)
+    ∙ sym (cond-true (nat_lt old.item (length old.script)) _ _ (lt-ltb old.item (length old.script) was))
+part_goes_on first (old ∷ parts) (suc k) part was is =
+    ap (λ (rest : List ℕ). if nat_lt old.item (length old.script) then first ∷ rest else rest) (part_goes_on (first + 1) parts k part was is)
+
+-- one that was its last isn't among them any more
+part_ends : (first : ℕ) (parts : List ActorPart) (k : ℕ) (part : ActorPart) → IsSomeAnd (slice_get parts k) has_line → (IsSomeAnd (slice_get (slice_set parts k part) k) has_line → ⊥)
+    → length (unfinished_from first parts) ≡ length (unfinished_from first (slice_set parts k part)) + 1
+unfolding unfinished_from
+part_ends first [] k part was is = absurd was
+part_ends first (old ∷ parts) zero part was is =
+    let rest = unfinished_from (first + 1) parts in
+    let before : length (unfinished_from first (old ∷ parts)) ≡ length rest + 1 =
+        ap length (cond-true (nat_lt old.item (length old.script)) (first ∷ rest) rest (lt-ltb old.item (length old.script) was)) ∙ omega arith in
+    let now : length (unfinished_from first (part ∷ parts)) ≡ length rest =
+        ap length (cond-false (nat_lt part.item (length part.script)) (first ∷ rest) rest (not_true (nat_lt part.item (length part.script)) (λ test. is (ltb-true part.item (length part.script) test)))) in
+    before ∙ ap (λ (n : ℕ). n + 1) (sym now)
+part_ends first (old ∷ parts) (suc k) part was is =
+    both (nat_lt old.item (length old.script)) first (unfinished_from (first + 1) parts) (unfinished_from (first + 1) (slice_set parts k part)) (part_ends (first + 1) parts k part was is)
+  where
+    both : (test : Bool) (first : ℕ) (xs ys : List ℕ) → length xs ≡ length ys + 1 → length (if test then first ∷ xs else xs) ≡ length (if test then first ∷ ys else ys) + 1
+    both true first xs ys e = omega arith
+    both false first xs ys e = e
+
+-- an actor's step that doesn't finish it leaves the same ones unfinished
+pub actor_goes_on : (m new : State) (actor : ℕ) → IsUnfinished m actor → new ≡ after m actor → IsUnfinished new actor → length (unfinished m) ≡ length (unfinished new)
+unfolding after
+actor_goes_on m new actor was becomes is =
+    let now : IsUnfinished (after m actor) actor = subst (λ (k : State). IsUnfinished k actor) becomes is in
+    sym (ap (λ (k : State). length (unfinished k)) becomes ∙ ap length (part_goes_on 1 m.actors (actor - 1) _ was.1 now.1))
+
+-- one that finishes it leaves one fewer
+pub actor_ends : (m new : State) (actor : ℕ) → IsUnfinished m actor → new ≡ after m actor → (IsUnfinished new actor → ⊥) → length (unfinished m) ≡ length (unfinished new) + 1
+unfolding after
+actor_ends m new actor was becomes ended =
+    part_ends 1 m.actors (actor - 1) _ was.1 (λ some. ended (subst (λ (k : State). IsUnfinished k actor) (sym becomes) (was.0, some))) ∙ ap (λ (k : State). length (unfinished k) + 1) (sym becomes)
 
 -- no actor is left at the end
 pub none_behind : (m : State) (first n : ℕ) → n ≡ length m.actors → unfinished_from first (drop n m.actors) ≡ []

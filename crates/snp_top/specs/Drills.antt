@@ -1,5 +1,5 @@
 -- What `gen` and `drill` make of their number, and what they write of it. This project's own.
-use Rattle.std.specs.Prelude.{◌≡◌, ℕ, ◌++◌, Bool, List, length, Option, Result, Ok, Err, codes, decimal}
+use Rattle.std.specs.Prelude.{◌≡◌, ℕ, ◌++◌, Bool, List, Option, Result, Ok, Err, codes, decimal}
 use Rattle.rand_pcg.specs.Lcg.{Lcg}
 use Rattle.snp_model.specs.declared.event.Outcome.{Outcome}
 use Rattle.snp_model.specs.Drill.{IsPicked, IsPickedFrom, drill_text, is_other}

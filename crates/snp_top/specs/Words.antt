@@ -1,6 +1,6 @@
 -- What the words of a command line ask for. This project's own.
-use Rattle.std.specs.Prelude.{◌≡◌, ℕ, ◌⊎◌, Bool, ◌||◌, true, false, List, codes, Option, None, Some}
-use Rattle.snp_model.specs.CommandLine.{are_words, drill_number, gen_number, is_alone, is_measure, is_replay}
+use Rattle.std.specs.Prelude.{◌≡◌, ℕ, ◌⊎◌, Bool, ◌||◌, true, false, List, Option, None, Some}
+use Rattle.snp_model.specs.CommandLine.{are_words, drill_number, gen_number, is_measure, is_replay}
 use Rattle.snp_top.specs.declared.words.Asked.{Asked}
 use Rattle.snp_top.specs.declared.words.Asked.TheVariants as asks
 

@@ -149,8 +149,7 @@ fn count(journal: &Journal, sort: Sort) -> u64
 {
     let mut count = 0;
     'events: for k in 0..journal.len() {
-        let (_, event) = journal.get(k);
-        if has(event.outcome, sort) {
+        if has(journal.outcome(k), sort) {
             count += 1;
         }
     }

@@ -25,7 +25,9 @@ pub fn play_picks(machine: &mut Machine, journal: &mut Journal, drill: &mut Dril
         let actor = unfinished_at(machine, actors, place);
         let event = machine.step(actor);
         journal.push(actor, event);
-        left = count_unfinished(machine, actors);
+        if machine.finished(actor) {
+            left -= 1;
+        }
     }
 }
 

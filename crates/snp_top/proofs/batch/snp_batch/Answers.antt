@@ -1,4 +1,4 @@
-use Rattle.std.proofs.Common.{ℕ, List, map, string_bytes, ◌⊎◌, ◌≡◌, true, false, Option, Some, inl, inr, subst, refl, ap, ◌∙◌, arith}
+use Rattle.std.proofs.Common.{ℕ, List, map, string_bytes, ◌≡◌, true, false, Option, Some, inl, inr, subst, refl, ap, ◌∙◌, arith}
 use Rattle.snp_model.specs.CommandLine.{are_words, drill_number, gen_number, is_measure, is_replay}
 use Rattle.snp_top.specs.Batch.{Outside}
 use Rattle.snp_top.specs.Drills.{CutsDrill, CutsScenario, SaysDrill, SaysScenario, WritesDrill, WritesScenario}

@@ -1,6 +1,4 @@
-use Rattle.std.proofs.Common.{◌≡◌, ◌+◌, ℕ, List, length, sym, ap, ◌∙◌, arith}
-use Rattle.snp_model.specs.declared.event.Event.{Event}
-use Rattle.snp_model.specs.declared.event.Outcome.{Outcome}
+use Rattle.std.proofs.Common.{◌≡◌, length, sym, ◌∙◌, arith}
 use Rattle.snp_top.specs.Drills.{is_of}
 use Rattle.snp_top.proofs.DrillLaws.{count_done, count_here, count_passed}
 use Rattle.snp_top.proofs.drilling.count.Goals.{then-has, else-has}
@@ -13,11 +11,11 @@ events-preserved c =
     let few = c.events.invariant.few in
     elim c.if-has.branch [
       | then-has w ↦
-          let here = count_here (is_of c.args.sort) list c.events.k c.get.result c.get.ensures (sym c.has.ensures ∙ w.if-has.true) in
+          let here = count_here (is_of c.args.sort) list c.events.k c.outcome.result c.outcome.ensures (sym c.has.ensures ∙ w.if-has.true) in
           let count = w.count-is in
           record { counted = omega arith; few = omega arith }
       | else-has w ↦
-          let passed = count_passed (is_of c.args.sort) list c.events.k c.get.result c.get.ensures (sym c.has.ensures ∙ w.if-has.false) in
+          let passed = count_passed (is_of c.args.sort) list c.events.k c.outcome.result c.outcome.ensures (sym c.has.ensures ∙ w.if-has.false) in
           let count = w.count-is in
           record { counted = omega arith; few = omega arith }
     ]

@@ -1,6 +1,5 @@
-use Rattle.std.proofs.Common.{◌≡◌, ◌≤◌, ◌<◌, ℕ, length, vec_capacity, refl, sym, ap, ◌∙◌, arith}
+use Rattle.std.proofs.Common.{◌≡◌, length, vec_capacity, refl, sym, ap, ◌∙◌, arith}
 use Rattle.machine_core.specs.Machine.{state_of}
-use Rattle.snp_model.specs.declared.scenario.Actor.{Actor}
 use Rattle.snp_model.proofs.SoundLaws.{valid_is_sound}
 use Rattle.snp_top.proofs.DrillLaws.{actors_built, drawn_is_valid, drill_played, drill_short, guests_kept}
 use Rattle.snp_top.proofs.ReplayLaws.{just_built}

@@ -1,4 +1,4 @@
-use Rattle.std.proofs.Common.{sym, ◌∙◌}
+use Rattle.std.proofs.Common.{◌∙◌}
 use Rattle.snp_model.specs.Outside.{Adds, AddsPrefix}
 use Rattle.snp_top.proofs.DrillLaws.{drill_told}
 use Rattle.snp_top.proofs.drilling.tell.Goals as goal
