@@ -1,5 +1,5 @@
 -- The lines of a report, one after another.
-use Rattle.std.proofs.Common.{◌≡◌, ◌≢◌, ℕ, zero, suc, ◌+◌, ◌-◌, ◌<◌, ◌≤◌, cond, eqb, List, [], ◌∷◌, ◌++◌, length, get_or, drop, slice_get, Some, refl, ap, sym, ◌∙◌, arith, append_assoc, append-nil, codes, true, false}
+use Rattle.std.proofs.Common.{◌≡◌, ◌≢◌, ℕ, zero, suc, ◌+◌, ◌-◌, ◌<◌, ◌≤◌, cond, eqb, List, [], ◌∷◌, ◌++◌, length, get_or, drop, slice_get, Option, Some, IfSome, refl, subst, ap, sym, ◌∙◌, arith, append_assoc, append-nil, codes, true, false}
 use Rattle.std.proofs.lemmas.Bool.Decides.{nat_tests}
 use Rattle.std.proofs.lemmas.List.{at_drop_more, drop_all}
 use Rattle.snp_model.specs.declared.event.Event.{Event}
@@ -33,6 +33,22 @@ event_behind front done entries k e h d =
     ap (λ (t : List ℕ). front ++ t) (event_at entries k e h)
     ∙ sym (append_assoc front (line (event_text k e.0 e.1)) more)
     ∙ ap (λ (t : List ℕ). t ++ more) (sym d)
+
+-- what holds of the entry at a place of a list within which it is
+pub entry_there : {X : Type 0} (P : X → Type 0) (xs : List X) (k : ℕ) → k < length xs → IfSome (slice_get xs k) P → (x : X) × (slice_get xs k ≡ Some x) × P x
+entry_there P [] k within holds = absurd (omega arith)
+entry_there P (x ∷ xs) zero within holds = (x, refl, holds)
+entry_there P (x ∷ xs) (suc k) within holds = entry_there P xs k (omega arith) holds
+
+-- the line of the event at a place behind others, and those after it
+pub line_behind : (front done : List ℕ) (entries : List (ℕ × Event)) (k : ℕ) → k < length entries → IfSome (slice_get entries k) (λ e. done ≡ front ++ line (event_text k e.0 e.1)) → front ++ event_lines k (drop k entries) ≡ done ++ event_lines (k + 1) (drop (k + 1) entries)
+line_behind front done entries k within is =
+    let found = entry_there (λ (e : ℕ × Event). done ≡ front ++ line (event_text k e.0 e.1)) entries k within is in
+    event_behind front done entries k found.0 found.1 found.2
+
+-- what is said of an entry at a place holds of all that can stand there
+pub said_of_entry : {X : Type 0} (P : X → Type 0) (found : Option X) (x : X) → found ≡ Some x → P x → IfSome found P
+said_of_entry {X = X} P found x is holds = subst (λ (o : Option X). IfSome o P) (sym is) holds
 
 -- a run begins
 pub run_begins : (actor : ℕ) (actors : List ℕ) → runs_of (actor ∷ actors) ≡ runs_after actor 1 actors

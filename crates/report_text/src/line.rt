@@ -1,9 +1,12 @@
 ghost use Rattle.std.specs.Prelude.{◌≡◌, ◌+◌, ◌≤◌, ◌++◌, length, take};
+ghost use Rattle.run_journal.specs.Shorts.{whole_deed, whole_event};
+ghost use Rattle.snp_model.specs.declared.event.Deed.TheVariants.{Access, Commit, Host, Nested, Table};
 ghost use Rattle.snp_model.specs.EventText.{deed_text, ending_text, event_text, hex, outcome_text, read_text};
 
+use run_journal::{Short, ShortDeed};
 use script_text::base16::{put_bytes, put_hex};
 use script_text::pen::{put, put_named, put_number};
-use snp_model::{Deed, Event, Outcome, PageSize};
+use snp_model::{Event, Outcome, PageSize};
 
 /// Writes the line of event k of an actor, without a line feed, into the front of a buffer, and
 /// gives its length. The rest of the buffer may be anything.
@@ -11,16 +14,23 @@ pub fn write_line(k: u32, actor: u32, event: &Event, out: &mut [u8; 256]) -> usi
     ensures end { result ≤ 255 }
     ensures text { take result out.new ≡ event_text k actor event.now }
 {
-    put_line(out, 0, k, actor, event)
+    put_line(out, 0, k, actor, &Short::from_event(event), &event.outcome)
 }
 
-// Writes the line of event k of an actor, without a line feed, at a place of a buffer.
+// Writes the line of event k of an actor, which is in its short form, without a line feed, at a place of a buffer.
 #[inline(always)]
 #[tactic(auto, unfolding(snp_model::specs::EventText::event_text))]
-pub(crate) fn put_line(out: &mut [u8], at: usize, k: u32, actor: u32, event: &Event) -> usize
+pub(crate) fn put_line(
+    out: &mut [u8],
+    at: usize,
+    k: u32,
+    actor: u32,
+    event: &Short,
+    outcome: &Option<Outcome>,
+) -> usize
     requires { at + 255 ≤ length out.old }
     ensures end { result ≤ at + 255 }
-    ensures text { take result out.new ≡ take at out.old ++ event_text k actor event.now }
+    ensures text { take result out.new ≡ take at out.old ++ event_text k actor (whole_event event.now outcome.now) }
 {
     let end = put_number(out, at, u64::from(k));
     let end = put_named(out, end, b" ", u64::from(actor));
@@ -28,7 +38,7 @@ pub(crate) fn put_line(out: &mut [u8], at: usize, k: u32, actor: u32, event: &Ev
     let end = put_named(out, end, b".", u64::from(event.attempt));
     let end = put(out, end, b" ");
     let end = put_deed(out, end, &event.deed);
-    put_ending(out, end, &event.outcome)
+    put_ending(out, end, outcome)
 }
 
 // Writes a space and the outcome, where there is one.
@@ -53,37 +63,40 @@ fn put_ending(out: &mut [u8], at: usize, outcome: &Option<Outcome>) -> usize
 // Writes what an event does.
 #[inline(always)]
 #[tactic(auto, unfolding(snp_model::specs::EventText::deed_text))]
-fn put_deed(out: &mut [u8], at: usize, deed: &Deed) -> usize
+fn put_deed(out: &mut [u8], at: usize, deed: &ShortDeed) -> usize
     requires { at + 83 ≤ length out.old }
     ensures end { result ≤ at + 83 }
-    ensures text { take result out.new ≡ take at out.old ++ deed_text deed.now }
+    ensures text { take result out.new ≡ take at out.old ++ deed_text (whole_deed deed.now) }
 {
     match *deed {
-        Deed::Begin => put(out, at, b"begin"),
-        Deed::Nested {
-            frame,
+        ShortDeed::Begin => put(out, at, b"begin"),
+        ShortDeed::Nested {
             index,
+            frame,
             value,
         } => put_nested(out, at, frame, index, value),
-        Deed::Table {
-            gpn,
+        ShortDeed::Table {
             index,
             frame,
+            gpn,
             value,
-        } => put_table(out, at, gpn, index, frame, value),
-        Deed::Access {
-            gpn,
+        } => put_table(out, at, gpn, index, frame, Some(value)),
+        ShortDeed::RefusedTable { index, frame, gpn } => {
+            put_table(out, at, gpn, index, frame, None)
+        }
+        ShortDeed::Access {
+            private,
             index,
             frame,
-            private,
+            gpn,
         } => put_access(out, at, gpn, index, frame, private),
-        Deed::Host { frame, index } => put_host(out, at, frame, index),
-        Deed::Lock { frame } => put_named(out, at, b"lock ", frame),
-        Deed::LockContext { guest } => put_named(out, at, b"lockg ", u64::from(guest)),
-        Deed::Compute => put(out, at, b"compute"),
-        Deed::Commit { frame, gpn, size } => put_commit(out, at, frame, gpn, size),
-        Deed::CommitContext { guest } => put_named(out, at, b"commitg ", u64::from(guest)),
-        Deed::Control => put(out, at, b"skip"),
+        ShortDeed::Host { index, frame } => put_host(out, at, frame, index),
+        ShortDeed::Lock { frame } => put_named(out, at, b"lock ", frame),
+        ShortDeed::LockContext { guest } => put_named(out, at, b"lockg ", u64::from(guest)),
+        ShortDeed::Compute => put(out, at, b"compute"),
+        ShortDeed::Commit { size, frame, gpn } => put_commit(out, at, frame, gpn, size),
+        ShortDeed::CommitContext { guest } => put_named(out, at, b"commitg ", u64::from(guest)),
+        ShortDeed::Control => put(out, at, b"skip"),
     }
 }
 
@@ -92,7 +105,7 @@ fn put_deed(out: &mut [u8], at: usize, deed: &Deed) -> usize
 fn put_nested(out: &mut [u8], at: usize, frame: u32, index: u16, value: u64) -> usize
     requires { at + 83 ≤ length out.old }
     ensures end { result ≤ at + 83 }
-    ensures text { take result out.new ≡ take at out.old ++ deed_text (Deed.Nested frame index value) }
+    ensures text { take result out.new ≡ take at out.old ++ deed_text (Nested frame index value) }
 {
     let end = put_named(out, at, b"npt ", u64::from(frame));
     let end = put_named(out, end, b":", u64::from(index));
@@ -112,7 +125,7 @@ fn put_table(
 ) -> usize
     requires { at + 83 ≤ length out.old }
     ensures end { result ≤ at + 83 }
-    ensures text { take result out.new ≡ take at out.old ++ deed_text (Deed.Table gpn index frame value) }
+    ensures text { take result out.new ≡ take at out.old ++ deed_text (Table gpn index frame value) }
 {
     let end = put(out, at, b"gpt ");
     let end = put_hex(out, end, gpn);
@@ -141,7 +154,7 @@ fn put_read(out: &mut [u8], at: usize, value: Option<u64>) -> usize
 fn put_access(out: &mut [u8], at: usize, gpn: u64, index: u16, frame: u32, private: bool) -> usize
     requires { at + 83 ≤ length out.old }
     ensures end { result ≤ at + 83 }
-    ensures text { take result out.new ≡ take at out.old ++ deed_text (Deed.Access gpn index frame private) }
+    ensures text { take result out.new ≡ take at out.old ++ deed_text (Access gpn index frame private) }
 {
     let end = put(out, at, b"data ");
     let end = put_hex(out, end, gpn);
@@ -159,7 +172,7 @@ fn put_access(out: &mut [u8], at: usize, gpn: u64, index: u16, frame: u32, priva
 fn put_host(out: &mut [u8], at: usize, frame: u32, index: u16) -> usize
     requires { at + 83 ≤ length out.old }
     ensures end { result ≤ at + 83 }
-    ensures text { take result out.new ≡ take at out.old ++ deed_text (Deed.Host frame index) }
+    ensures text { take result out.new ≡ take at out.old ++ deed_text (Host frame index) }
 {
     let end = put_named(out, at, b"host ", u64::from(frame));
     put_named(out, end, b":", u64::from(index))
@@ -170,7 +183,7 @@ fn put_host(out: &mut [u8], at: usize, frame: u32, index: u16) -> usize
 fn put_commit(out: &mut [u8], at: usize, frame: u32, gpn: u64, size: PageSize) -> usize
     requires { at + 83 ≤ length out.old }
     ensures end { result ≤ at + 83 }
-    ensures text { take result out.new ≡ take at out.old ++ deed_text (Deed.Commit frame gpn size) }
+    ensures text { take result out.new ≡ take at out.old ++ deed_text (Commit frame gpn size) }
 {
     let end = put_named(out, at, b"commit ", u64::from(frame));
     let end = put(out, end, b" ");

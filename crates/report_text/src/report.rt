@@ -1,4 +1,4 @@
-ghost use Rattle.std.specs.Prelude.{◌≡◌, ◌+◌, ◌^◌, ◌<◌, ◌≤◌, ◌++◌, length, take, OnErr};
+ghost use Rattle.std.specs.Prelude.{◌≡◌, ◌+◌, ◌^◌, ◌<◌, ◌≤◌, ◌++◌, length, slice_get, take, IfSome, OnErr};
 ghost use Rattle.snp_model.specs.EventText.{event_text};
 ghost use Rattle.snp_model.specs.Journal.{actors_of};
 ghost use Rattle.snp_model.specs.Outside.{Rose, Writes};
@@ -11,7 +11,7 @@ use outside_port::{Sink, SinkFault, write_all};
 use run_journal::Journal;
 use script_text::base16::put_bytes;
 use script_text::pen::{put, put_named};
-use snp_model::{Event, GuestLine, GuestState};
+use snp_model::{GuestLine, GuestState};
 
 /// Writes the report of a journal and its guests, many lines of events by one call and each other line by a call of its own.
 /// `version` is 1 or 2, that of the scenario. Takes no memory.
@@ -60,8 +60,7 @@ fn write_events<K: Sink>(journal: &Journal, sink: &mut K) -> Result<(), SinkFaul
     let mut buffer = [0; 8192];
     let mut end = 0;
     for k in 0..journal.len() {
-        let (actor, event) = journal.get(k);
-        end = put_event(&mut buffer, end, k as u32, actor, &event);
+        end = put_event(&mut buffer, end, journal, k);
         if end > 8192 - 256 {
             write_all(sink, &buffer[..end])?;
             end = 0;
@@ -70,14 +69,16 @@ fn write_events<K: Sink>(journal: &Journal, sink: &mut K) -> Result<(), SinkFaul
     write_all(sink, &buffer[..end])
 }
 
-// Writes the line of event k at a place of a buffer.
-#[inline(always)]
-fn put_event(out: &mut [u8], at: usize, k: u32, actor: u32, event: &Event) -> usize
-    requires { at + 256 ≤ length out.old }
+// Writes the line of event k of a journal at a place of a buffer, straight from what the journal keeps.
+fn put_event(out: &mut [u8], at: usize, journal: &Journal, k: usize) -> usize
+    requires room { at + 256 ≤ length out.old }
+    requires there { k < length journal.now.list }
+    requires short { length journal.now.list < 2 ^ 32 }
     ensures end { result ≤ at + 256 }
-    ensures text { take result out.new ≡ take at out.old ++ line (event_text k actor event.now) }
+    ensures text { IfSome (slice_get journal.now.list k) (λ entry. take result out.new ≡ take at out.old ++ line (event_text k entry.0 entry.1)) }
 {
-    let end = put_line(out, at, k, actor, event);
+    let kept = journal.kept(k);
+    let end = put_line(out, at, k as u32, kept.actor, &kept.event, &kept.outcome);
     put(out, end, b"\n")
 }
 

@@ -30,9 +30,13 @@ abbrev pub outcome_at : List Outcome → ℕ → Option Outcome
 outcome_at outcomes zero = None
 outcome_at outcomes (suc place) = slice_get outcomes place
 
+-- an event of a short form and an outcome
+abbrev pub whole_event : Short → Option Outcome → Event
+whole_event short outcome = record { item = short.item; attempt = short.attempt; deed = whole_deed short.deed; outcome = outcome }
+
 -- an event and its actor
 abbrev pub entry_of : List Outcome → Mark → Short → ℕ × Event
-entry_of outcomes mark short = (mark.actor, record { item = short.item; attempt = short.attempt; deed = whole_deed short.deed; outcome = outcome_at outcomes mark.end })
+entry_of outcomes mark short = (mark.actor, whole_event short (outcome_at outcomes mark.end))
 
 abbrev pub entries_of : List Outcome → List Mark → List Short → List (ℕ × Event)
 entries_of outcomes [] shorts = []

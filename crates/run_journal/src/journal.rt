@@ -1,9 +1,9 @@
 ghost use Rattle.std.specs.Prelude.{◌≡◌, ◌<◌, ◌≤◌, ◌^◌, ◌-◌, ◌==◌, [], ◌∷◌, ◌++◌, length, slice_get, vec_capacity, IfOk, Some};
 ghost use Rattle.snp_model.specs.Journal.{actors_of};
 ghost use Rattle.run_journal.specs.Outcomes.{outcomes_of};
-ghost use Rattle.run_journal.specs.Shorts.{Keeps, outcome_at};
+ghost use Rattle.run_journal.specs.Shorts.{Keeps, outcome_at, whole_event};
 
-use crate::short::{Mark, Short, shortened, whole_deed};
+use crate::short::{Mark, Short};
 use snp_model::{Event, Outcome};
 use std::alloc::{AllocError, Global};
 use std::marker::Model;
@@ -16,6 +16,17 @@ pub struct Journal {
     marks: Vec<Mark>,
     events: Vec<Short>,
     outcomes: Vec<Outcome>,
+}
+
+/// What a journal keeps of an event.
+#[derive(Clone, Copy, Debug)]
+pub struct Kept {
+    /// Whose event it is.
+    pub actor: u32,
+    /// The event without its outcome.
+    pub event: Short,
+    /// The outcome, or none where the event ended no attempt.
+    pub outcome: Option<Outcome>,
 }
 
 impl Model for Journal {
@@ -58,11 +69,7 @@ impl Journal {
     {
         let end = keep_outcome(&mut self.outcomes, &event.outcome);
         self.marks.push_reserved(Mark { actor, end });
-        self.events.push_reserved(Short {
-            item: event.item,
-            attempt: event.attempt,
-            deed: shortened(&event.deed),
-        });
+        self.events.push_reserved(Short::from_event(&event));
     }
 
     /// How many events there are.
@@ -81,20 +88,27 @@ impl Journal {
     }
 
     /// Event k, from 0, and its actor.
-    #[tactic(auto, using(crate::proofs::ShortLaws::length_entries, crate::proofs::ShortLaws::within_at, crate::proofs::ShortLaws::entry_at))]
     pub fn get(&self, k: usize) -> (u32, Event)
         requires { k < length self.now.list }
         ensures { slice_get self.now.list k ≡ Some result }
     {
+        let kept = self.kept(k);
+        (kept.actor, kept.event.whole(kept.outcome))
+    }
+
+    /// What is kept of event k, from 0.
+    #[inline(always)]
+    #[tactic(auto, using(crate::proofs::ShortLaws::length_entries, crate::proofs::ShortLaws::within_at, crate::proofs::ShortLaws::entry_at))]
+    pub fn kept(&self, k: usize) -> Kept
+        requires { k < length self.now.list }
+        ensures { slice_get self.now.list k ≡ Some (result.actor, whole_event result.event result.outcome) }
+    {
         let mark = self.marks[k];
-        let short = self.events[k];
-        let event = Event {
-            item: short.item,
-            attempt: short.attempt,
-            deed: whole_deed(&short.deed),
+        Kept {
+            actor: mark.actor,
+            event: self.events[k],
             outcome: outcome_at(&self.outcomes, mark.end),
-        };
-        (mark.actor, event)
+        }
     }
 
     /// The outcome of event k, from 0, or none where it ended no attempt.
@@ -134,6 +148,7 @@ fn keep_outcome(outcomes: &mut Vec<Outcome>, outcome: &Option<Outcome>) -> u32
 }
 
 // The outcome before a place, if the place isn't 0.
+#[inline(always)]
 fn outcome_at(outcomes: &Vec<Outcome>, end: u32) -> Option<Outcome>
     requires { end ≤ length outcomes.now.items }
     ensures { result ≡ outcome_at outcomes.now.items end }

@@ -4,4 +4,5 @@
 mod journal;
 mod short;
 
-pub use journal::Journal;
+pub use journal::{Journal, Kept};
+pub use short::{Short, ShortDeed};

@@ -1,14 +1,46 @@
 ghost use Rattle.std.specs.Prelude.{◌≡◌};
-ghost use Rattle.run_journal.specs.Shorts.{whole_deed};
+ghost use Rattle.run_journal.specs.Shorts.{whole_deed, whole_event};
 
-use snp_model::{Deed, PageSize};
+use snp_model::{Deed, Event, Outcome, PageSize};
 
-/// An event without its actor and its outcome.
+/// An event without its actor and its outcome, in fewer bytes.
 #[derive(Clone, Copy, Debug)]
 pub struct Short {
+    /// The item that the event is of, from 0.
     pub item: u32,
+    /// The attempt at it, from 0.
     pub attempt: u32,
+    /// What the event does.
     pub deed: ShortDeed,
+}
+
+impl Short {
+    /// The short form of an event.
+    #[inline(always)]
+    pub fn from_event(event: &Event) -> Short
+        ensures item { result.item ≡ event.now.item }
+        ensures attempt { result.attempt ≡ event.now.attempt }
+        ensures deed { whole_deed result.deed ≡ event.now.deed }
+    {
+        Short {
+            item: event.item,
+            attempt: event.attempt,
+            deed: shortened(&event.deed),
+        }
+    }
+
+    /// The event of a short form and an outcome.
+    #[inline(always)]
+    pub fn whole(&self, outcome: Option<Outcome>) -> Event
+        ensures { result ≡ whole_event self.now outcome }
+    {
+        Event {
+            item: self.item,
+            attempt: self.attempt,
+            deed: whole_deed(&self.deed),
+            outcome,
+        }
+    }
 }
 
 /// The actor of an event, and the place after its outcome among the outcomes, or 0 for none.
@@ -69,7 +101,7 @@ pub enum ShortDeed {
 
 // The short form of a deed.
 #[inline(always)]
-pub fn shortened(deed: &Deed) -> ShortDeed
+fn shortened(deed: &Deed) -> ShortDeed
     ensures { whole_deed result ≡ deed.now }
 {
     match *deed {
@@ -128,7 +160,7 @@ fn shortened_table(gpn: u64, index: u16, frame: u32, value: Option<u64>) -> Shor
 
 // The deed of a short form.
 #[inline(always)]
-pub fn whole_deed(deed: &ShortDeed) -> Deed
+fn whole_deed(deed: &ShortDeed) -> Deed
     ensures { result ≡ whole_deed deed.now }
 {
     match *deed {

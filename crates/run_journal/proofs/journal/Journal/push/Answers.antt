@@ -24,5 +24,5 @@ returns-clause-list c =
     let after = c.keep_outcome-end.new.outcomes.items in
     let list : entries_of outcomes marks shorts ≡ c.args.self.now.list = ap (λ (e : JournalImage). e.list) c.self.view_is in
     (λ i. entries_of after (c.push_reserved.ensures.items i) (c.push_reserved-2.ensures.items i))
-    ∙ entries_more outcomes after c.args.event _ c.args.actor marks shorts _ _ c.keep_outcome-end.ensures.kept c.self.invariant.within c.self.invariant.whose refl refl refl c.shortened.ensures
+    ∙ entries_more outcomes after c.args.event _ c.args.actor marks shorts _ _ c.keep_outcome-end.ensures.kept c.self.invariant.within c.self.invariant.whose refl c.from_event.ensures.item c.from_event.ensures.attempt c.from_event.ensures.deed
     ∙ ap (λ (es : List (ℕ × Event)). es ++ (c.args.actor, c.args.event) ∷ []) list
