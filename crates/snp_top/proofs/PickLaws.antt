@@ -83,9 +83,9 @@ part_ends first [] k part was is = absurd was
 part_ends first (old ∷ parts) zero part was is =
     let rest = unfinished_from (first + 1) parts in
     let before : length (unfinished_from first (old ∷ parts)) ≡ length rest + 1 =
-        ap length (cond-true (nat_lt old.item (length old.script)) (first ∷ rest) rest (lt-ltb old.item (length old.script) was)) ∙ omega arith in
+    ap length (cond-true (nat_lt old.item (length old.script)) (first ∷ rest) rest (lt-ltb old.item (length old.script) was)) ∙ omega arith in
     let now : length (unfinished_from first (part ∷ parts)) ≡ length rest =
-        ap length (cond-false (nat_lt part.item (length part.script)) (first ∷ rest) rest (not_true (nat_lt part.item (length part.script)) (λ test. is (ltb-true part.item (length part.script) test)))) in
+    ap length (cond-false (nat_lt part.item (length part.script)) (first ∷ rest) rest (not_true (nat_lt part.item (length part.script)) (λ test. is (ltb-true part.item (length part.script) test)))) in
     before ∙ ap (λ (n : ℕ). n + 1) (sym now)
 part_ends first (old ∷ parts) (suc k) part was is =
     both (nat_lt old.item (length old.script)) first (unfinished_from (first + 1) parts) (unfinished_from (first + 1) (slice_set parts k part)) (part_ends (first + 1) parts k part was is)

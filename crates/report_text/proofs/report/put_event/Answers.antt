@@ -12,5 +12,5 @@ returns-clause-text c =
     let kept = c.kept-kept.result in
     let text = event_text c.args.k kept.actor (whole_event kept.event kept.outcome) in
     let whole : take c.put.result c.put.new.out ≡ front ++ line text =
-        c.put.ensures.text ∙ ap (λ (t : List ℕ). t ++ 10 ∷ []) c.put_line-end.ensures.text ∙ append_assoc front text (10 ∷ []) in
+    c.put.ensures.text ∙ ap (λ (t : List ℕ). t ++ 10 ∷ []) c.put_line-end.ensures.text ∙ append_assoc front text (10 ∷ []) in
     said_of_entry (λ (e : ℕ × Event). take c.put.result c.put.new.out ≡ front ++ line (event_text c.args.k e.0 e.1)) (slice_get c.args.journal.now.list c.args.k) (kept.actor, whole_event kept.event kept.outcome) c.kept-kept.ensures whole
