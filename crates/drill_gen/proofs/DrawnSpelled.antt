@@ -17,8 +17,7 @@ use Rattle.snp_model.specs.declared.scenario.Role.TheVariants.{Cpu, Host, Firmwa
 use Rattle.snp_model.specs.Generated.{generator_of, draw, word_address, mapping, cpu_item_of, cpu_item, host_item_of, host_item, command_of, firmware_item, item_for, script_for, actors_for, roles, guest_spec, page_spec, pages_for, scenario_with, drawn_scenario, generated}
 use Rattle.snp_model.specs.ScenarioLines.{is_opened}
 use Rattle.snp_model.proofs.PairLaws.{each_append}
-use Rattle.script_text.specs.Written.{IsTriedBy, IsWide, IsWideCommand}
-use Rattle.scenario_text.proofs.Spelled.{HasWholeKey, IsOfOpened, IsRoleOf, IsSpelledLine, IsSpelledActor, IsSpelled}
+use Rattle.snp_model.specs.Spelled.{IsTriedBy, IsWide, IsWideCommand, HasWholeKey, IsOfOpened, IsRoleOf, IsSpelledLine, IsSpelledActor, IsSpelled}
 use Rattle.drill_gen.proofs.GeneratedCommands.{draw_below}
 use Rattle.drill_gen.proofs.GeneratedSound.{each_from}
 

@@ -9,7 +9,7 @@ use Rattle.std.proofs.lemmas.List.{length-replicate}
 use Rattle.std.proofs.lemmas.Bool.Decides.{nat_tests}
 use Rattle.snp_model.specs.Locks.{in_range}
 use Rattle.snp_model.specs.GuestMemory.{Places, Memory, known, with_known, with_pages, without_pages}
-use Rattle.snp_model.proofs.MemoryLaws.{get_with_pages, get_without_pages}
+use Rattle.run_laws.proofs.MemoryLaws.{get_with_pages, get_without_pages}
 use Rattle.guest_memory.specs.Pages.{memory_of, with_entry, HasRoom}
 
 -- two memories are the same where each page is

@@ -6,7 +6,7 @@ use Rattle.snp_model.specs.declared.walk.GuestPath.{GuestPath}
 use Rattle.snp_model.specs.declared.walk.GuestEnd.{GuestEnd}
 use Rattle.snp_model.specs.declared.walk.GuestEnd.TheVariants.{Read, Leaf, Fault}
 use Rattle.snp_model.specs.GuestWalk.{guest_index, after_guest_word, guest_walk_from, first_guest_read, guest_end}
-use Rattle.snp_model.proofs.GuestReadsLaws.{link_of, guest_end-push}
+use Rattle.guest_walk.proofs.GuestReadsLaws.{link_of, guest_end-push}
 
 walk_next : (path : GuestPath) (level table index word : ℕ) (words : List ℕ) → guest_walk_from path level (Read table index) (word ∷ words) ≡ guest_walk_from path (level - 1) (after_guest_word path level word) words
 unfolding guest_walk_from

@@ -5,12 +5,12 @@ use Rattle.snp_model.specs.declared.walk.GuestPath.{GuestPath}
 use Rattle.snp_model.specs.declared.walk.GuestEnd.{GuestEnd}
 use Rattle.snp_model.specs.declared.walk.GuestEnd.TheVariants.{Read, Leaf, Fault}
 use Rattle.snp_model.specs.GuestWalk.{guest_index, after_guest_word, guest_walk_from, guest_end}
-use Rattle.snp_model.proofs.GuestReadsLaws.{link_of, guest_end-push, guest_walk_is}
-use Rattle.snp_model.specs.GuestReads.{IsGuestWalk, guest_reads}
+use Rattle.guest_walk.specs.GuestReads.{IsGuestWalk, guest_reads}
 use Rattle.guest_walk.specs.declared.walk.GuestWalked.{GuestWalked}
 use Rattle.guest_walk.specs.declared.walk.GuestWalked.TheVariants.{More}
 use Rattle.guest_walk.specs.Walk.{Walk, IsStanding}
 use Rattle.guest_walk.specs.Answer.{answer_at, answer_of, end_of}
+use Rattle.guest_walk.proofs.GuestReadsLaws.{link_of, guest_end-push, guest_walk_is}
 
 -- a walk that has read nothing stands at its first read
 pub standing_first : (path : GuestPath) → 4 ≤ path.levels → path.levels ≤ 5 → path.root < 2 ^ 36 → IsStanding path path.root (0 ∷ 0 ∷ 0 ∷ 0 ∷ 0 ∷ []) 0

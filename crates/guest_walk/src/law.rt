@@ -4,7 +4,7 @@ ghost use Rattle.snp_model.specs.declared.entry.PageSize.{PageSize};
 ghost use Rattle.snp_model.specs.declared.walk.GuestPath.{GuestPath};
 ghost use Rattle.snp_model.specs.declared.walk.GuestEnd.{GuestEnd};
 ghost use Rattle.snp_model.specs.GuestWalk.{guest_end};
-ghost use Rattle.snp_model.specs.GuestReads.{GuestRead, IsGuestWalk, IsGuestPermitted, guest_reads, guest_values};
+ghost use Rattle.guest_walk.specs.GuestReads.{GuestRead, IsGuestWalk, IsGuestPermitted, guest_reads, guest_values};
 
 /// The laws of guest walks. It does nothing.
 pub fn guest_walk_laws()

@@ -1,6 +1,6 @@
 ghost use Rattle.std.specs.Prelude.{◌≡◌, ◌^◌, ◌<◌, ◌≤◌, ◌↔◌, [], ◌∷◌, ◌++◌, IsTrue, IsOk, IfOk};
 ghost use Rattle.snp_model.specs.GuestWalk.{is_canonical, guest_end};
-ghost use Rattle.snp_model.specs.GuestReads.{IsGuestWalk, guest_reads};
+ghost use Rattle.guest_walk.specs.GuestReads.{IsGuestWalk, guest_reads};
 
 use crate::entry::{after_word, guest_index, is_canonical};
 use snp_model::{GuestEnd, GuestPath, PageSize};

@@ -13,7 +13,7 @@ use Rattle.snp_model.specs.Opening.{opening}
 use Rattle.snp_model.specs.Reading.{Valid}
 use Rattle.snp_model.specs.State.{State, IsUnfinished}
 use Rattle.snp_model.specs.Step.{event_of, after}
-use Rattle.snp_model.proofs.JournalsLaws.{script_few, is_run_none, is_run_push, is_run_room, state_at_none, state_at_push}
+use Rattle.run_laws.proofs.JournalsLaws.{script_few, is_run_none, is_run_push, is_run_room, state_at_none, state_at_push}
 use Rattle.machine_board.specs.Boards.{GoesOn, IsBoard}
 
 -- at the opening

@@ -1,13 +1,13 @@
 ghost use Rattle.std.specs.Prelude.{◌≡◌, ℕ};
-ghost use Rattle.machine_board.specs.Boards.{GoesOn, board_state};
 ghost use Rattle.snp_model.specs.Journals.{IsComplete};
 ghost use Rattle.snp_model.specs.State.{IsUnfinished};
+ghost use Rattle.machine_board.specs.Boards.{GoesOn, board_state};
 
 use crate::board::Board;
 
 impl Board {
     /// Steps every actor that is unfinished, upwards, until all are finished. Takes no memory.
-    #[tactic(auto, using(crate::proofs::BoardLaws::goes_on_none, crate::proofs::BoardLaws::goes_on_both, snp_model::proofs::JournalsLaws::actors_few, snp_model::proofs::JournalsLaws::unfinished_is_actor))]
+    #[tactic(auto, using(crate::proofs::BoardLaws::goes_on_none, crate::proofs::BoardLaws::goes_on_both, run_laws::proofs::JournalsLaws::actors_few, run_laws::proofs::JournalsLaws::unfinished_is_actor))]
     pub fn finish(&mut self)
         ensures scenario { self.new.scenario ≡ self.old.scenario }
         ensures list { GoesOn self.old.list self.new.list }
@@ -21,7 +21,7 @@ impl Board {
 }
 
 // Steps an actor until it is finished.
-#[tactic(auto, using(crate::proofs::BoardLaws::goes_on_none, crate::proofs::BoardLaws::goes_on_push, snp_model::proofs::JournalsLaws::unfinished_earlier))]
+#[tactic(auto, using(crate::proofs::BoardLaws::goes_on_none, crate::proofs::BoardLaws::goes_on_push, run_laws::proofs::JournalsLaws::unfinished_earlier))]
 fn finish_actor(board: &mut Board, actor: u32)
     ensures scenario { board.new.scenario ≡ board.old.scenario }
     ensures list { GoesOn board.old.list board.new.list }

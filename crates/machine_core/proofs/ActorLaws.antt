@@ -10,14 +10,14 @@ use Rattle.snp_model.specs.declared.event.Outcome.{Outcome}
 use Rattle.snp_model.specs.declared.event.Outcome.TheVariants as outcomes
 use Rattle.snp_model.specs.Step.{line_at, passed_over}
 use Rattle.snp_model.specs.Walking.{guest_words, nested_words_after, nested_words}
-use Rattle.snp_model.proofs.ShapeLaws.{guest_words_append, nested_words_append}
+use Rattle.snp_model.specs.Bounds.{IsGuestInside}
+use Rattle.snp_model.specs.State.{Standing}
+use Rattle.run_laws.proofs.ShapeLaws.{guest_words_append, nested_words_append}
 use Rattle.machine_core.specs.declared.made_page.MadePage.{MadePage}
 use Rattle.machine_core.specs.declared.taken_lock.Taken.{Taken}
 use Rattle.machine_core.specs.declared.taken_lock.Taken.TheVariants.{Made, OfContext, OfPage}
 use Rattle.machine_core.specs.declared.taken_lock.TakenLock.{TakenLock}
 use Rattle.machine_core.specs.Actors.{computed_of, made_in, page_lock_of, guest_words_with, nested_words_with, is_nested_read, IsActorState, IsBegun}
-use Rattle.snp_model.specs.Bounds.{IsGuestInside}
-use Rattle.snp_model.specs.State.{Standing}
 use Rattle.machine_core.specs.Moves.{with_made, with_taken}
 use Rattle.machine_core.specs.Walks.{stands_of}
 

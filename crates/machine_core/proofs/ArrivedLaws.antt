@@ -13,12 +13,12 @@ use Rattle.snp_model.specs.declared.walk.Lookup.{Lookup}
 use Rattle.snp_model.specs.InstructionStep.{adjust_begin, adjust_move, is_page_address, page_place, validate_move}
 use Rattle.snp_model.specs.Locks.{page_lock}
 use Rattle.snp_model.specs.NestedWalk.{walk_from}
-use Rattle.snp_model.specs.OpenAttempts.{IsLockingAttempt}
 use Rattle.snp_model.specs.Opening.{asid_of}
 use Rattle.snp_model.specs.State.{ActorPart, PageLock, Standing, nothing_taken}
 use Rattle.snp_model.specs.Validation.{adjust_input, adjust_refusal, carry, pages_adjusted, pages_validated, validate_refusal}
 use Rattle.snp_model.specs.Walking.{Processor, guest_words, nested_words_after, guest_stands, need_after, walk_need}
-use Rattle.snp_model.proofs.TestedLaws.{let_through}
+use Rattle.run_laws.specs.OpenAttempts.{IsLockingAttempt}
+use Rattle.run_laws.proofs.TestedLaws.{let_through}
 use Rattle.machine_core.specs.declared.shown.Shown.{Shown}
 use Rattle.machine_core.specs.Actors.{IsBegun}
 use Rattle.machine_core.specs.Bays.{Stock, pages_of, view_on}

@@ -25,13 +25,13 @@ use Rattle.snp_model.specs.RegionWords.{page_at, word_at, word_set}
 use Rattle.snp_model.specs.State.{Page, ActorPart, with_word, word_of}
 use Rattle.snp_model.specs.Moves.{memory_move, quiet_move, table_word}
 use Rattle.snp_model.specs.Step.{access_move}
-use Rattle.snp_model.proofs.LockLaws.{not_true}
-use Rattle.snp_model.proofs.RangeLaws.{over_beside}
+use Rattle.snp_model.specs.Verdicts.{private_verdict}
+use Rattle.run_laws.proofs.LockLaws.{not_true}
+use Rattle.run_laws.proofs.RangeLaws.{over_beside}
+use Rattle.run_laws.proofs.LockLaws.{not_true}
+use Rattle.run_laws.proofs.RangeLaws.{over_beside}
 use Rattle.machine_core.specs.declared.bay.Bay.{Bay}
 use Rattle.machine_core.specs.Bays.{Bays, IsWholeRegion, Stock, contents_of, context_holders_of, facts_of, holder_in, holders_of, locks_of, page_in, pages_of, put, stock_with, view_on, words_of}
-use Rattle.snp_model.proofs.LockLaws.{not_true}
-use Rattle.snp_model.proofs.RangeLaws.{over_beside}
-use Rattle.snp_model.specs.Verdicts.{private_verdict}
 use Rattle.machine_core.specs.Moves.{move_by, table_load}
 
 pub put_at : (bays : Bays) (region : ℕ) (bay : Bay) (r : ℕ) → r ≡ region → put region bay bays r ≡ Some bay

@@ -15,8 +15,8 @@ use Rattle.snp_model.specs.HeldContexts.{HeldContext}
 use Rattle.snp_model.specs.Locks.{in_range}
 use Rattle.snp_model.specs.Opening.{asid_of, facts_from, page_facts, with_page}
 use Rattle.snp_model.specs.Sound.{FramesDiffer, IsPage}
-use Rattle.snp_model.proofs.LockLaws.{not_true}
-use Rattle.snp_model.proofs.RangeLaws.{over_beside}
+use Rattle.run_laws.proofs.LockLaws.{not_true}
+use Rattle.run_laws.proofs.RangeLaws.{over_beside}
 use Rattle.machine_core.specs.declared.bay.Bay.{Bay}
 use Rattle.machine_core.specs.Bays.{IsWholeRegion, locks_of, no_locks, own_stock}
 

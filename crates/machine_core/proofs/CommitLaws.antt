@@ -9,13 +9,13 @@ use Rattle.snp_model.specs.declared.firmware.Part.TheVariants.{Source, Target}
 use Rattle.snp_model.specs.declared.scenario.GuestSpec.{GuestSpec}
 use Rattle.snp_model.specs.Firmware.{guest_of, pages_of as command_pages, success}
 use Rattle.snp_model.specs.FirmwareStep.{Computing, Committing, phase_of, small_shown}
-use Rattle.snp_model.specs.HeldLocks.{AreCommandLocks}
-use Rattle.snp_model.specs.KeptLocks.{OwnsContext, OwnsLocks, is_locked, recontexted, relocked}
 use Rattle.snp_model.specs.Locks.{locks_frame}
 use Rattle.snp_model.specs.Sealing.{Sealing}
 use Rattle.snp_model.specs.State.{ActorPart, PageLock, Standing}
 use Rattle.snp_model.specs.Touches.{firmware_touches}
-use Rattle.snp_model.proofs.CommandTests.{IsReady}
+use Rattle.run_laws.specs.HeldLocks.{AreCommandLocks}
+use Rattle.run_laws.specs.KeptLocks.{OwnsContext, OwnsLocks, is_locked, recontexted, relocked}
+use Rattle.run_laws.proofs.CommandTests.{IsReady}
 use Rattle.machine_core.specs.declared.shown.Shown.{Shown}
 use Rattle.machine_core.specs.Bays.{Bays, GuestContexts, HasFrame, HasTouched, Stock, contents_of, context_holders_of, holders_of, pages_of}
 use Rattle.machine_core.specs.Commits.{MayCommit}

@@ -7,9 +7,9 @@ use Rattle.snp_model.specs.declared.firmware.MetaEntry.{MetaEntry}
 use Rattle.snp_model.specs.declared.scenario.GuestSpec.{GuestSpec}
 use Rattle.snp_model.specs.Entries.{released}
 use Rattle.snp_model.specs.FirmwareStep.{computed_move, refused}
-use Rattle.snp_model.specs.KeptLocks.{OwnsContext, OwnsLocks, is_locked, recontexted, relocked}
 use Rattle.snp_model.specs.Locks.{locks_frame}
 use Rattle.snp_model.specs.State.{ActorPart, Computed}
+use Rattle.run_laws.specs.KeptLocks.{OwnsContext, OwnsLocks, is_locked, recontexted, relocked}
 use Rattle.machine_core.specs.declared.made_page.MadePage.{MadePage}
 use Rattle.machine_core.specs.declared.shown.Shown.{Shown}
 use Rattle.machine_core.specs.declared.taken_lock.Taken.TheVariants.{Made}

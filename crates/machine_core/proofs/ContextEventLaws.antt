@@ -4,8 +4,8 @@ use Rattle.snp_model.specs.declared.command.Command.{Command}
 use Rattle.snp_model.specs.declared.event.FwRefusal.{FwRefusal}
 use Rattle.snp_model.specs.declared.scenario.GuestSpec.{GuestSpec}
 use Rattle.snp_model.specs.FirmwareStep.{context_taken, take_context}
-use Rattle.snp_model.specs.KeptLocks.{OwnsLocks, recontexted, relocked}
 use Rattle.snp_model.specs.State.{ActorPart, PageLock, Standing, nothing_taken}
+use Rattle.run_laws.specs.KeptLocks.{OwnsLocks, recontexted, relocked}
 use Rattle.machine_core.specs.declared.shown.Shown.{Shown}
 use Rattle.machine_core.specs.Bays.{Stock, contents_of, context_holders_of, contexts_of, holders_of, pages_of, view_on}
 use Rattle.machine_core.specs.Commands.{context_refused, context_shown}

@@ -12,8 +12,8 @@ use Rattle.snp_model.specs.Firmware.{invalid_param}
 use Rattle.snp_model.specs.FirmwareCommits.{at_guest}
 use Rattle.snp_model.specs.FirmwareLocks.{context_refusal, firmware_answer, guest_refusal}
 use Rattle.snp_model.specs.HeldContexts.{HeldContext}
-use Rattle.snp_model.specs.KeptLocks.{recontexted}
 use Rattle.snp_model.specs.State.{Context}
+use Rattle.run_laws.specs.KeptLocks.{recontexted}
 use Rattle.machine_core.specs.Bays.{GuestContexts, Stock, context_holder_in, context_holders_of, contexts_of, put_context, stock_with_context}
 use Rattle.machine_core.specs.Commands.{HoldsContext, HoldsNoContext, context_refused, context_shown}
 use Rattle.machine_core.proofs.RangeLaws.{released_other}

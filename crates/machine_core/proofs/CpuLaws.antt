@@ -19,11 +19,11 @@ use Rattle.snp_model.specs.declared.walk.Need.TheVariants as needs
 use Rattle.snp_model.specs.GuestWalk.{levels_of}
 use Rattle.snp_model.specs.Opening.{asid_of}
 use Rattle.snp_model.specs.Verdicts.{private_verdict}
-use Rattle.machine_core.specs.declared.shown.Shown.{Shown}
 use Rattle.snp_model.specs.Moves.{Arrival, begin_move, table_move, table_place, need_move, walked_move}
 use Rattle.snp_model.specs.State.{ActorPart, View, word_of}
 use Rattle.snp_model.specs.Walking.{Processor, guest_words, nested_words, guest_stands, walk_need, need_after, fault_of}
-use Rattle.snp_model.proofs.ShapeLaws.{guest_words_same, guest_words_more, nested_words_more, nested_words_anew}
+use Rattle.run_laws.proofs.ShapeLaws.{guest_words_same, guest_words_more, nested_words_more, nested_words_anew}
+use Rattle.machine_core.specs.declared.shown.Shown.{Shown}
 use Rattle.machine_core.specs.Moves.{move_by, table_load, table_shown}
 
 -- one word more of a nested table

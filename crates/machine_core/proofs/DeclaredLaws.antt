@@ -10,13 +10,13 @@ use Rattle.snp_model.specs.declared.walk.Lookup.{Lookup}
 use Rattle.snp_model.specs.declared.walk.Need.{Need}
 use Rattle.snp_model.specs.declared.walk.Need.TheVariants as needs
 use Rattle.snp_model.specs.Bounds.{IsItemOf, IsRole}
-use Rattle.snp_model.specs.HeldLocks.{AreItemLocks}
 use Rattle.snp_model.specs.InstructionStep.{page_lookup}
 use Rattle.snp_model.specs.RmpUpdate.{is_bad_smash, is_bad_update}
 use Rattle.snp_model.specs.State.{ActorPart, Contents, PageLock}
 use Rattle.snp_model.specs.Touches.{Touched, instruction_touches, item_touches, need_touches, walk_touches}
 use Rattle.snp_model.specs.Walking.{Processor, lookup_of, need_after}
-use Rattle.snp_model.proofs.CommandTests.{IsDeclared}
+use Rattle.run_laws.specs.HeldLocks.{AreItemLocks}
+use Rattle.run_laws.proofs.CommandTests.{IsDeclared}
 use Rattle.machine_core.proofs.FirmwareTouchLaws.{TouchesDeclared, firmware_declared}
 
 none_declared : (guests : List GuestSpec) (touched : Touched) → touched.context ≡ None → TouchesDeclared guests touched

@@ -13,14 +13,14 @@ use Rattle.snp_model.specs.declared.scenario.GuestSpec.{GuestSpec}
 use Rattle.snp_model.specs.Firmware.{CommandPage, guest_of, invalid_address, invalid_param, pages_of}
 use Rattle.snp_model.specs.FirmwareLocks.{context_refusal, frame_refusal, guest_refusal}
 use Rattle.snp_model.specs.FirmwareStep.{command_asid, context_phase, lock_refusal, pages_phase, phase_of}
-use Rattle.snp_model.specs.HeldLocks.{AreCommandLocks}
 use Rattle.snp_model.specs.Locks.{page_lock}
 use Rattle.snp_model.specs.Sealing.{Sealing, sealing_of}
 use Rattle.snp_model.specs.State.{Computed, Contents, PageLock, Standing}
 use Rattle.snp_model.specs.Touches.{Touched, command_touches, context_touched, lock_regions, locks_regions, nothing_touched, page_touches, pages_regions, phase_touches, region_of, touches_frame}
-use Rattle.snp_model.proofs.CommandTests.{IsDeclared, has_lock, same_some}
-use Rattle.snp_model.proofs.LockLaws.{first_none}
-use Rattle.snp_model.proofs.TestedLaws.{let_through}
+use Rattle.run_laws.specs.HeldLocks.{AreCommandLocks}
+use Rattle.run_laws.proofs.CommandTests.{IsDeclared, has_lock, same_some}
+use Rattle.run_laws.proofs.LockLaws.{first_none}
+use Rattle.run_laws.proofs.TestedLaws.{let_through}
 use Rattle.machine_core.proofs.PageLaws.{base_region}
 
 -- the guest whose context is touched, if one's is, is declared

@@ -13,12 +13,12 @@ use Rattle.snp_model.specs.Firmware.{CommandPage, guest_of, one_page, pages_of a
 use Rattle.snp_model.specs.FirmwareCommits.{at_guest, context_after, launched_into, root_after}
 use Rattle.snp_model.specs.FirmwareLocks.{context_refusal, guest_refusal, takes_large}
 use Rattle.snp_model.specs.FirmwareStep.{commit_deed, commit_move, context_committed, contexts_after, nothing_made, page_shown, pages_after}
-use Rattle.snp_model.specs.KeptLocks.{OwnsContext, OwnsLocks, is_locked}
 use Rattle.snp_model.specs.Locks.{page_lock}
 use Rattle.snp_model.specs.Moves.{Move}
 use Rattle.snp_model.specs.State.{ActorPart, Contexts, Pages}
-use Rattle.snp_model.proofs.CommandTests.{IsReady}
-use Rattle.snp_model.proofs.LockLaws.{others_none}
+use Rattle.run_laws.specs.KeptLocks.{OwnsContext, OwnsLocks, is_locked}
+use Rattle.run_laws.proofs.CommandTests.{IsReady}
+use Rattle.run_laws.proofs.LockLaws.{others_none}
 use Rattle.machine_core.specs.declared.shown.Shown.{Shown}
 use Rattle.machine_core.specs.Bays.{Stock, contents_of, context_holders_of, contexts_of, holders_of, pages_of, view_on}
 use Rattle.machine_core.specs.CommandPages.{IsTestedFrame}

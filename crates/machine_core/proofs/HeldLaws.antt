@@ -9,14 +9,14 @@ use Rattle.snp_model.specs.declared.event.Outcome.{Outcome}
 use Rattle.snp_model.specs.declared.event.Refusal.{Refusal}
 use Rattle.snp_model.specs.declared.scenario.GuestSpec.{GuestSpec}
 use Rattle.snp_model.specs.Entries.{refusal_answer, released}
-use Rattle.snp_model.specs.HeldLocks.{AreInstructionLocks, IsOneLock}
-use Rattle.snp_model.specs.KeptLocks.{OwnsContext, OwnsLocks, is_locked, recontexted, relocked}
 use Rattle.snp_model.specs.Locks.{covers, locks_frame}
 use Rattle.snp_model.specs.InstructionStep.{instruction_lock}
 use Rattle.snp_model.specs.Moves.{Move, lock_move, memory_move}
 use Rattle.snp_model.specs.State.{ActorPart, PageLock, Pages, Standing, View, nothing_taken}
 use Rattle.snp_model.specs.Touches.{frame_touched, instruction_touches}
-use Rattle.snp_model.proofs.RangeLaws.{also_touched}
+use Rattle.run_laws.specs.HeldLocks.{AreInstructionLocks, IsOneLock}
+use Rattle.run_laws.specs.KeptLocks.{OwnsContext, OwnsLocks, is_locked, recontexted, relocked}
+use Rattle.run_laws.proofs.RangeLaws.{also_touched}
 use Rattle.rmp_update.specs.Regions.{region_answer}
 use Rattle.machine_core.specs.declared.made_page.MadePage.{MadePage}
 use Rattle.machine_core.specs.declared.shown.Shown.{Shown}

@@ -5,17 +5,17 @@ use Rattle.std.proofs.lemmas.List.{get_or_read, get_or-set_same}
 use Rattle.snp_model.specs.declared.event.Event.{Event}
 use Rattle.snp_model.specs.declared.scenario.GuestSpec.{GuestSpec}
 use Rattle.snp_model.specs.HeldContexts.{HeldContext}
-use Rattle.snp_model.specs.KeptLocks.{IsTestedAt, KeepsLocks, OwnsContext, OwnsLocks, recontexted, relocked}
 use Rattle.snp_model.specs.Locks.{context_holder_of, holder_of, view_of}
-use Rattle.snp_model.specs.OpenAttempts.{IsWalking}
-use Rattle.snp_model.specs.Ready.{IsReady, AreReady}
 use Rattle.snp_model.specs.State.{ActorPart, IsUnfinished, State, View, idle_part, part_of}
 use Rattle.snp_model.specs.Step.{Stepped, event_of, after, step_of}
-use Rattle.snp_model.proofs.ContextLaws.{context_holders_after, owns_context}
-use Rattle.snp_model.proofs.HolderLaws.{holders_after, owns_locks}
-use Rattle.snp_model.proofs.LockedLaws.{step_keeps_locks}
-use Rattle.snp_model.proofs.ReadyLaws.{after_ready}
-use Rattle.snp_model.proofs.RunLaws.{unfinished_at}
+use Rattle.run_laws.specs.KeptLocks.{IsTestedAt, KeepsLocks, OwnsContext, OwnsLocks, recontexted, relocked}
+use Rattle.run_laws.specs.OpenAttempts.{IsWalking}
+use Rattle.run_laws.specs.Ready.{IsReady, AreReady}
+use Rattle.run_laws.proofs.ContextLaws.{context_holders_after, owns_context}
+use Rattle.run_laws.proofs.HolderLaws.{holders_after, owns_locks}
+use Rattle.run_laws.proofs.LockedLaws.{step_keeps_locks}
+use Rattle.run_laws.proofs.ReadyLaws.{after_ready}
+use Rattle.run_laws.proofs.RunLaws.{unfinished_at}
 use Rattle.machine_core.specs.declared.bay.Bay.{Bay}
 use Rattle.machine_core.specs.Bays.{HasAll, contents_of, context_holders_of, holders_of, locks_of, own_bays, own_contexts, own_stock, view_on}
 use Rattle.machine_core.specs.Machine.{IsMachine, state_of}

@@ -20,16 +20,16 @@ use Rattle.snp_model.specs.Facts.{frames_in, page_base}
 use Rattle.snp_model.specs.Firmware.{CommandPage, any_equal, guest_of, has_equal_frames, invalid_param, one_page, pages_of as command_pages, three_pages, two_pages}
 use Rattle.snp_model.specs.FirmwareLocks.{context_refusal, guest_refusal, takes_large}
 use Rattle.snp_model.specs.FirmwareStep.{command_asid, refused, take_page}
-use Rattle.snp_model.specs.HeldLocks.{AreCommandLocks}
-use Rattle.snp_model.specs.KeptLocks.{OwnsLocks}
 use Rattle.snp_model.specs.Locks.{covers, page_lock}
 use Rattle.snp_model.specs.Moves.{Move, lock_move}
 use Rattle.snp_model.specs.State.{ActorPart, Contents, PageLock, Standing}
 use Rattle.snp_model.specs.Touches.{command_touches, lock_regions, locks_regions, page_touches, pages_regions, region_of}
-use Rattle.snp_model.proofs.CommandTests.{lock_page, page_tests, same_some}
-use Rattle.snp_model.proofs.LockLaws.{others_none}
-use Rattle.snp_model.proofs.RangeLaws.{also_touched, lock_region}
-use Rattle.snp_model.proofs.TestedLaws.{let_through}
+use Rattle.run_laws.specs.HeldLocks.{AreCommandLocks}
+use Rattle.run_laws.specs.KeptLocks.{OwnsLocks}
+use Rattle.run_laws.proofs.CommandTests.{lock_page, page_tests, same_some}
+use Rattle.run_laws.proofs.LockLaws.{others_none}
+use Rattle.run_laws.proofs.RangeLaws.{also_touched, lock_region}
+use Rattle.run_laws.proofs.TestedLaws.{let_through}
 use Rattle.machine_core.specs.declared.command.NamedPage.{NamedPage}
 use Rattle.machine_core.specs.declared.shown.Shown.{Shown}
 use Rattle.machine_core.specs.declared.taken_lock.Taken.TheVariants.{OfPage}

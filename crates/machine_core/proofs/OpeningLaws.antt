@@ -11,15 +11,15 @@ use Rattle.snp_model.specs.declared.scenario.Scenario.{Scenario}
 use Rattle.snp_model.specs.Attempts.{script_attempts, actors_attempts, attempts_of}
 use Rattle.snp_model.specs.Facts.{free_entry}
 use Rattle.snp_model.specs.HeldContexts.{HeldContext, opening_held}
-use Rattle.snp_model.specs.KeptLocks.{KeepsLocks}
 use Rattle.snp_model.specs.Locks.{context_holder_from, holder_from, view_of}
 use Rattle.snp_model.specs.Opening.{opening, opening_context, opening_part, opening_contexts, facts_from, words_from}
-use Rattle.snp_model.specs.Ready.{AreReady}
-use Rattle.snp_model.specs.Shapes.{AreShaped}
 use Rattle.snp_model.specs.Sound.{IsSound}
 use Rattle.snp_model.specs.State.{ActorPart, Context, Page, zero_words}
-use Rattle.snp_model.proofs.LockedRuns.{opening_keeps_locks, shaped_whole}
-use Rattle.snp_model.proofs.ReadyLaws.{opening_ready}
+use Rattle.run_laws.specs.KeptLocks.{KeepsLocks}
+use Rattle.run_laws.specs.Ready.{AreReady}
+use Rattle.run_laws.specs.Shapes.{AreShaped}
+use Rattle.run_laws.proofs.LockedRuns.{opening_keeps_locks, shaped_whole}
+use Rattle.run_laws.proofs.ReadyLaws.{opening_ready}
 use Rattle.machine_core.specs.Machine.{IsMachine, state_of}
 use Rattle.machine_core.specs.declared.bay.Bay.{Bay}
 use Rattle.machine_core.specs.Bays.{contents_of, context_holder_in, context_holders_of, context_in, contexts_of, facts_of, free_bay, holder_in, holders_of, locks_of, no_locks, own_bays, own_contexts, own_stock, page_in, pages_of, view_on, words_of}

@@ -12,10 +12,10 @@ use Rattle.snp_model.specs.Entries.{Entries, facts_at, holder_at, region_pages, 
 use Rattle.snp_model.specs.Facts.{frames_in, free_entry, page_base}
 use Rattle.snp_model.specs.FirmwareCommits.{at_frame}
 use Rattle.snp_model.specs.FirmwareStep.{page_shown}
-use Rattle.snp_model.specs.KeptLocks.{relocked}
 use Rattle.snp_model.specs.Locks.{in_range, over, over_lock, page_lock}
 use Rattle.snp_model.specs.RegionWords.{page_at}
 use Rattle.snp_model.specs.State.{Page, Pages}
+use Rattle.run_laws.specs.KeptLocks.{relocked}
 use Rattle.machine_core.specs.declared.bay.Bay.{Bay}
 use Rattle.machine_core.specs.declared.shown.Shown.{Shown}
 use Rattle.machine_core.specs.Bays.{Bays, Stock, holder_in, holders_of, page_in, pages_of, put}

@@ -11,11 +11,11 @@ use Rattle.snp_model.specs.declared.scenario.GuestSpec.{GuestSpec}
 use Rattle.snp_model.specs.Entries.{facts_at, holder_at, with_lock, without_locks}
 use Rattle.snp_model.specs.Facts.{frames_in, page_base}
 use Rattle.snp_model.specs.InstructionStep.{instruction_lock}
-use Rattle.snp_model.specs.KeptLocks.{relocked}
 use Rattle.snp_model.specs.Locks.{covers, in_range, over, over_lock, page_lock}
 use Rattle.snp_model.specs.RegionWords.{page_at}
 use Rattle.snp_model.specs.State.{ActorPart, Page, PageLock, nothing_taken}
 use Rattle.snp_model.specs.Validation.{adjusted_facts, carry, pages_adjusted, pages_validated, validated_facts}
+use Rattle.run_laws.specs.KeptLocks.{relocked}
 use Rattle.machine_core.specs.declared.bay.Bay.{Bay}
 use Rattle.machine_core.specs.declared.shown.Shown.{Shown}
 use Rattle.machine_core.specs.declared.taken_lock.Taken.TheVariants.{OfPage}

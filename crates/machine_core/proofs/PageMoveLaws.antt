@@ -10,9 +10,9 @@ use Rattle.snp_model.specs.declared.event.Deed.TheVariants as deeds
 use Rattle.snp_model.specs.declared.event.Outcome.TheVariants as outcomes
 use Rattle.snp_model.specs.FirmwareCommits.{at_frame, placed, taken, taken_facts}
 use Rattle.snp_model.specs.FirmwareStep.{pages_moved, small_shown}
-use Rattle.snp_model.specs.KeptLocks.{relocked}
 use Rattle.snp_model.specs.Locks.{covers, page_lock}
 use Rattle.snp_model.specs.State.{Page, PageLock, Pages}
+use Rattle.run_laws.specs.KeptLocks.{relocked}
 use Rattle.machine_core.specs.declared.shown.Shown.{Shown}
 use Rattle.machine_core.specs.Bays.{Stock, holders_of}
 use Rattle.machine_core.specs.CommandPages.{HoldsLocks, released_in}

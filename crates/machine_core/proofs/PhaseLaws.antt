@@ -7,14 +7,14 @@ use Rattle.snp_model.specs.declared.scenario.GuestSpec.{GuestSpec}
 use Rattle.snp_model.specs.Firmware.{CommandPage, guest_of, pages_of as command_pages}
 use Rattle.snp_model.specs.FirmwareLocks.{guest_refusal}
 use Rattle.snp_model.specs.FirmwareStep.{Phase, TakeContext, TakePage, Computing, Committing, context_phase, pages_phase, phase_of}
-use Rattle.snp_model.specs.HeldLocks.{AreCommandLocks}
-use Rattle.snp_model.specs.OpenAttempts.{IsCommand}
 use Rattle.snp_model.specs.Sealing.{Sealing, sealing_of}
 use Rattle.snp_model.specs.State.{Computed, Contents, Standing, nothing_taken}
 use Rattle.snp_model.specs.declared.event.Deed.{Deed}
 use Rattle.snp_model.specs.declared.event.FwRefusal.{FwRefusal}
 use Rattle.snp_model.specs.Touches.{command_touches, context_touched, nothing_touched, page_touches, pages_regions, phase_touches, region_of}
-use Rattle.snp_model.proofs.RangeLaws.{also_touched}
+use Rattle.run_laws.specs.HeldLocks.{AreCommandLocks}
+use Rattle.run_laws.specs.OpenAttempts.{IsCommand}
+use Rattle.run_laws.proofs.RangeLaws.{also_touched}
 use Rattle.machine_core.specs.Bays.{HasFrame, HasTouched, Stock}
 
 -- an attempt that needs the lock of a context has none yet

@@ -6,10 +6,10 @@ use Rattle.snp_model.specs.declared.entry.PageSize.{PageSize}
 use Rattle.snp_model.specs.declared.entry.PageSize.TheVariants.{Small, Large}
 use Rattle.snp_model.specs.Entries.{released}
 use Rattle.snp_model.specs.Facts.{frames_in}
-use Rattle.snp_model.specs.KeptLocks.{relocked}
 use Rattle.snp_model.specs.Locks.{covers, in_range, over}
 use Rattle.snp_model.specs.State.{Page, PageLock}
 use Rattle.snp_model.specs.Verdicts.{is_large}
+use Rattle.run_laws.specs.KeptLocks.{relocked}
 use Rattle.machine_core.specs.declared.bay.Bay.{Bay}
 use Rattle.machine_core.specs.Bays.{Bays, Stock, holder_in, holders_of, page_in, pages_of, stock_with}
 use Rattle.machine_core.proofs.BaysLaws.{put_at, put_off, range_beside, same_range}

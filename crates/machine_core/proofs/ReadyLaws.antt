@@ -14,12 +14,12 @@ use Rattle.snp_model.specs.Firmware.{CommandPage, guest_of, invalid_address, pag
 use Rattle.snp_model.specs.FirmwareCommits.{at_guest, context_after, root_after}
 use Rattle.snp_model.specs.FirmwareLocks.{frame_refusal, page_refusal, page_extra, takes_large}
 use Rattle.snp_model.specs.FirmwareStep.{command_asid, context_committed, contexts_after, first_lock, lock_refusal}
-use Rattle.snp_model.specs.KeptLocks.{OwnsLocks}
 use Rattle.snp_model.specs.Locks.{page_lock}
 use Rattle.snp_model.specs.State.{ActorPart, Computed, Contents, Context, Contexts, Page, PageLock, Pages, Standing}
-use Rattle.snp_model.proofs.CommandTests.{IsReady, has_lock, page_at, same_some}
-use Rattle.snp_model.proofs.LockLaws.{first_none}
-use Rattle.snp_model.proofs.TestedLaws.{let_through}
+use Rattle.run_laws.specs.KeptLocks.{OwnsLocks}
+use Rattle.run_laws.proofs.CommandTests.{IsReady, has_lock, page_at, same_some}
+use Rattle.run_laws.proofs.LockLaws.{first_none}
+use Rattle.run_laws.proofs.TestedLaws.{let_through}
 use Rattle.machine_core.specs.Bays.{Stock, contents_of, holders_of, pages_of}
 use Rattle.machine_core.specs.CommandPages.{HoldsLocks, IsTestedFrame}
 use Rattle.machine_core.specs.Ranges.{HoldsLock}

@@ -5,10 +5,10 @@ use Rattle.std.proofs.lemmas.Bool.Decides.{nat_tests}
 use Rattle.std.proofs.lemmas.List.{drop_more}
 use Rattle.std.specs.List.{list_any}
 use Rattle.snp_model.specs.Entries.{released}
-use Rattle.snp_model.specs.KeptLocks.{relocked}
 use Rattle.snp_model.specs.Locks.{covers}
 use Rattle.snp_model.specs.State.{PageLock}
 use Rattle.snp_model.specs.Touches.{region_of}
+use Rattle.run_laws.specs.KeptLocks.{relocked}
 use Rattle.machine_core.specs.declared.taken_lock.TakenLock.{TakenLock}
 use Rattle.machine_core.specs.Actors.{page_lock_of}
 use Rattle.machine_core.specs.Bays.{HasTouched, Stock}

@@ -11,15 +11,15 @@ use Rattle.snp_model.specs.declared.event.Refusal.{Refusal}
 use Rattle.snp_model.specs.declared.event.Refusal.TheVariants as refusals
 use Rattle.snp_model.specs.declared.scenario.GuestSpec.{GuestSpec}
 use Rattle.snp_model.specs.Entries.{facts_at, holder_at, with_lock, without_locks}
-use Rattle.snp_model.specs.HeldLocks.{IsSmashLock}
 use Rattle.snp_model.specs.InstructionStep.{smash_move}
-use Rattle.snp_model.specs.KeptLocks.{relocked}
 use Rattle.snp_model.specs.Locks.{in_range, over, over_lock, page_lock}
 use Rattle.snp_model.specs.RegionWords.{page_at}
 use Rattle.snp_model.specs.RmpUpdate.{is_bad_smash, pages_smashed, smash_page_refusal, smash_refusal, smashed_facts, smashed_page}
 use Rattle.snp_model.specs.State.{ActorPart, Page, PageLock, Standing, nothing_taken}
 use Rattle.snp_model.specs.Verdicts.{is_large}
-use Rattle.snp_model.proofs.TestedLaws.{let_through, smash_passes}
+use Rattle.run_laws.specs.HeldLocks.{IsSmashLock}
+use Rattle.run_laws.specs.KeptLocks.{relocked}
+use Rattle.run_laws.proofs.TestedLaws.{let_through, smash_passes}
 use Rattle.machine_core.specs.declared.bay.Bay.{Bay}
 use Rattle.machine_core.specs.declared.shown.Shown.{Shown}
 use Rattle.machine_core.specs.declared.taken_lock.Taken.TheVariants.{OfPage}

@@ -10,7 +10,7 @@ use Rattle.snp_model.specs.Firmware.{guest_of}
 use Rattle.snp_model.specs.FirmwareStep.{commit_deed, commit_move, contexts_after, nothing_made, pages_after}
 use Rattle.snp_model.specs.Sealing.{Sealing, sealing_of}
 use Rattle.snp_model.specs.State.{ActorPart, Computed, PageLock, Pages}
-use Rattle.snp_model.proofs.CommandTests.{same_some}
+use Rattle.run_laws.proofs.CommandTests.{same_some}
 use Rattle.machine_core.specs.declared.shown.Shown.{Shown}
 use Rattle.machine_core.specs.Bays.{GuestContexts, Stock, contents_of, contexts_of, pages_of, view_on}
 use Rattle.machine_core.specs.Moves.{move_by, standing_by}

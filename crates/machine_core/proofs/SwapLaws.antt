@@ -8,11 +8,11 @@ use Rattle.snp_model.specs.declared.entry.PageSize.TheVariants.{Small}
 use Rattle.snp_model.specs.declared.firmware.MetaEntry.{MetaEntry}
 use Rattle.snp_model.specs.Entries.{facts_at}
 use Rattle.snp_model.specs.FirmwareCommits.{at_frame, restored, restored_facts, with_words}
-use Rattle.snp_model.specs.KeptLocks.{relocked}
 use Rattle.snp_model.specs.Locks.{covers, page_lock}
 use Rattle.snp_model.specs.RegionWords.{page_at, page_set}
 use Rattle.snp_model.specs.Sealing.{What, GuestPage, MetadataPage, Slot, OfEntry, OfRoot, brought_back, entry_set, given_up, pages_in, pages_out, with_slot_entry}
 use Rattle.snp_model.specs.State.{Page, PageLock, Pages}
+use Rattle.run_laws.specs.KeptLocks.{relocked}
 use Rattle.machine_core.specs.declared.bay.Bay.{Bay}
 use Rattle.machine_core.specs.declared.sealing.Slot as slots
 use Rattle.machine_core.specs.declared.sealing.Slot.TheVariants as slot_variants

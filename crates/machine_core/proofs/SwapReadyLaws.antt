@@ -12,7 +12,7 @@ use Rattle.snp_model.specs.FirmwareLocks.{takes_large}
 use Rattle.snp_model.specs.Locks.{page_lock}
 use Rattle.snp_model.specs.Sealing.{What, GuestPage, MetadataPage, Slot, OfEntry, OfRoot, Sealing, SealOut, SealIn, sealing_of}
 use Rattle.snp_model.specs.State.{ActorPart, PageLock}
-use Rattle.snp_model.proofs.CommandTests.{context_at, same_some}
+use Rattle.run_laws.proofs.CommandTests.{context_at, same_some}
 use Rattle.machine_core.specs.declared.sealing.Sealing as sealings
 use Rattle.machine_core.specs.declared.sealing.Way as ways
 use Rattle.machine_core.specs.declared.sealing.Way.TheVariants as way_variants

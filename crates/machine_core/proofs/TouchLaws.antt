@@ -23,20 +23,20 @@ use Rattle.snp_model.specs.declared.walk.NestedEnd.{NestedEnd}
 use Rattle.snp_model.specs.declared.walk.NestedEnd.TheVariants as ends
 use Rattle.snp_model.specs.Bounds.{IsItemOf, IsRole}
 use Rattle.snp_model.specs.Facts.{frames_in}
-use Rattle.snp_model.specs.HeldLocks.{AreInstructionLocks, AreItemLocks, IsOneLock, IsSmashLock, IsUpdateLock, IsWalkedLock, PageTest, adjust_test, validate_test}
 use Rattle.snp_model.specs.InstructionStep.{facts_of, page_lookup}
-use Rattle.snp_model.specs.KeptLocks.{IsTestedAt}
 use Rattle.snp_model.specs.HeldContexts.{HeldContext}
 use Rattle.snp_model.specs.Locks.{page_lock, range_lock}
 use Rattle.snp_model.specs.NestedWalk.{after_word, first_read, walk_from}
-use Rattle.snp_model.specs.Ready.{IsReady}
 use Rattle.snp_model.specs.RmpUpdate.{is_bad_smash, is_bad_update}
 use Rattle.snp_model.specs.State.{ActorPart, Contents, PageLock, Standing}
 use Rattle.snp_model.specs.Step.{line_at}
 use Rattle.snp_model.specs.Touches.{Touched, context_touched, frame_touched, instruction_touches, item_touches, lock_regions, locks_regions, need_touches, nothing_touched, region_of, touches_frame, walk_touches, with_locks}
 use Rattle.snp_model.specs.Walking.{Processor, lookup_of, table_path, data_path, table_need, data_need, walk_need, need_after}
-use Rattle.snp_model.proofs.ReadyLaws.{ready_line}
-use Rattle.snp_model.proofs.TestedLaws.{smash_passes, update_passes}
+use Rattle.run_laws.specs.HeldLocks.{AreInstructionLocks, AreItemLocks, IsOneLock, IsSmashLock, IsUpdateLock, IsWalkedLock, PageTest, adjust_test, validate_test}
+use Rattle.run_laws.specs.KeptLocks.{IsTestedAt}
+use Rattle.run_laws.specs.Ready.{IsReady}
+use Rattle.run_laws.proofs.ReadyLaws.{ready_line}
+use Rattle.run_laws.proofs.TestedLaws.{smash_passes, update_passes}
 use Rattle.machine_core.specs.declared.bay.Bay.{Bay}
 use Rattle.machine_core.specs.Bays.{HasAll, HasFrame, HasTouched, Stock, own_stock}
 use Rattle.machine_core.specs.OwnLaws.{within_guest, within_some}

@@ -10,16 +10,16 @@ use Rattle.snp_model.specs.declared.item.Update.{Update}
 use Rattle.snp_model.specs.declared.scenario.GuestSpec.{GuestSpec}
 use Rattle.snp_model.specs.Entries.{facts_at, holder_at, region_pages, with_lock, without_locks}
 use Rattle.snp_model.specs.Facts.{frames_in, free_entry}
-use Rattle.snp_model.specs.HeldLocks.{IsUpdateLock}
 use Rattle.snp_model.specs.InstructionStep.{update_move}
-use Rattle.snp_model.specs.KeptLocks.{relocked}
 use Rattle.snp_model.specs.Locks.{over, range_lock}
 use Rattle.snp_model.specs.RegionWords.{page_at}
 use Rattle.snp_model.specs.RmpUpdate.{is_bad_update, pages_updated, update_lock, update_range_refusal, update_refusal, updated_page}
 use Rattle.snp_model.specs.State.{ActorPart, Page, PageLock, Standing, nothing_taken}
 use Rattle.snp_model.specs.Verdicts.{is_large}
-use Rattle.snp_model.proofs.InstructionLocality.{update_range_same}
-use Rattle.snp_model.proofs.TestedLaws.{let_through}
+use Rattle.run_laws.specs.HeldLocks.{IsUpdateLock}
+use Rattle.run_laws.specs.KeptLocks.{relocked}
+use Rattle.run_laws.proofs.InstructionLocality.{update_range_same}
+use Rattle.run_laws.proofs.TestedLaws.{let_through}
 use Rattle.rmp_update.specs.Regions.{HoldsRange, IsTested, first_slot, region_refusal}
 use Rattle.machine_core.specs.declared.bay.Bay.{Bay}
 use Rattle.machine_core.specs.declared.shown.Shown.{Shown}

@@ -3,10 +3,10 @@ use Rattle.std.specs.Prelude.{◌≡◌, ℕ, ◌<◌, List, length, slice_get, 
 use Rattle.snp_model.specs.declared.command.Command.{Command}
 use Rattle.snp_model.specs.declared.scenario.GuestSpec.{GuestSpec}
 use Rattle.snp_model.specs.Firmware.{entry_of, guest_of, pages_of}
-use Rattle.snp_model.specs.HeldLocks.{AreCommandLocks}
-use Rattle.snp_model.specs.KeptLocks.{OwnsContext, OwnsLocks}
 use Rattle.snp_model.specs.State.{ActorPart}
 use Rattle.snp_model.specs.Touches.{command_touches}
+use Rattle.run_laws.specs.HeldLocks.{AreCommandLocks}
+use Rattle.run_laws.specs.KeptLocks.{OwnsContext, OwnsLocks}
 use Rattle.machine_core.specs.Bays.{HasTouched, Stock, contents_of, locks_of}
 
 -- the guest of a command has a number from 1 on, and an entry that it names is one of the 64 of a metadata page

@@ -2,10 +2,10 @@
 use Rattle.std.specs.Prelude.{◌≡◌, ◌*◌, ◌≤◌, List, length}
 use Rattle.snp_model.specs.declared.scenario.GuestSpec.{GuestSpec}
 use Rattle.snp_model.specs.HeldContexts.{HeldContext}
-use Rattle.snp_model.specs.KeptLocks.{KeepsLocks}
 use Rattle.snp_model.specs.Locks.{view_of}
-use Rattle.snp_model.specs.Ready.{AreReady}
 use Rattle.snp_model.specs.State.{ActorPart, State}
+use Rattle.run_laws.specs.KeptLocks.{KeepsLocks}
+use Rattle.run_laws.specs.Ready.{AreReady}
 use Rattle.machine_core.specs.declared.bay.Bay.{Bay}
 use Rattle.machine_core.specs.Bays.{contents_of, own_stock, view_on}
 

@@ -1,7 +1,7 @@
 ghost use Rattle.std.specs.Prelude.{◌≡◌, ◌<◌, true, length, Some};
 ghost use Rattle.snp_model.specs.FirmwareStep.{computed_move};
-ghost use Rattle.snp_model.specs.KeptLocks.{recontexted, relocked};
 ghost use Rattle.snp_model.specs.Sealing.{compute_of, sealing_of};
+ghost use Rattle.run_laws.specs.KeptLocks.{recontexted, relocked};
 ghost use Rattle.machine_core.specs.Bays.{contents_of, locks_of, view_on};
 ghost use Rattle.machine_core.specs.Commits.{IsBoundedCommand, MayCommit};
 ghost use Rattle.machine_core.specs.Moves.{context_by, locks_by, move_by, standing_with, takes_page};

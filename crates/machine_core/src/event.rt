@@ -2,13 +2,13 @@ ghost use Rattle.std.specs.Prelude.{◌≡◌, ◌<◌, true, List, length, None
 ghost use Rattle.snp_model.specs.declared.scenario.GuestSpec.{GuestSpec};
 ghost use Rattle.snp_model.specs.declared.scenario.Role.TheVariants.{Cpu, Host, Firmware};
 ghost use Rattle.snp_model.specs.Bounds.{IsCpu, IsGuestInside, IsItemOf};
-ghost use Rattle.snp_model.specs.HeldLocks.{AreItemLocks};
-ghost use Rattle.snp_model.specs.KeptLocks.{IsTestedAt, OwnsContext, OwnsLocks, recontexted, relocked};
-ghost use Rattle.snp_model.specs.OpenAttempts.{IsAttempt};
-ghost use Rattle.snp_model.specs.Ready.{IsReady};
 ghost use Rattle.snp_model.specs.Step.{item_move, line_at, step_of};
 ghost use Rattle.snp_model.specs.Touches.{item_touches};
 ghost use Rattle.snp_model.specs.Walking.{guest_words};
+ghost use Rattle.run_laws.specs.HeldLocks.{AreItemLocks};
+ghost use Rattle.run_laws.specs.KeptLocks.{IsTestedAt, OwnsContext, OwnsLocks, recontexted, relocked};
+ghost use Rattle.run_laws.specs.OpenAttempts.{IsAttempt};
+ghost use Rattle.run_laws.specs.Ready.{IsReady};
 ghost use Rattle.machine_core.specs.Actors.{IsBegun};
 ghost use Rattle.machine_core.specs.Bays.{HasAll, HasTouched, locks_of, view_on};
 ghost use Rattle.machine_core.specs.Moves.{TakesPageAlone, context_by, locks_by, move_by, standing_by, standing_with, takes_page};
@@ -120,7 +120,7 @@ fn next_event<P: Parts>(
 
 // The next event of a guest's processor.
 #[inline(always)]
-#[tactic(auto, using(crate::proofs::HeldLaws::none_relocked, crate::proofs::HeldLaws::none_recontexted, crate::proofs::HeldLaws::instruction_recontexted, crate::proofs::HeldLaws::takes_none, crate::proofs::ArrivedLaws::attempt_admitted), unfolding(snp_model::specs::Step::item_move, snp_model::specs::Touches::item_touches, snp_model::specs::HeldLocks::AreItemLocks, snp_model::specs::OpenAttempts::IsAttempt))]
+#[tactic(auto, using(crate::proofs::HeldLaws::none_relocked, crate::proofs::HeldLaws::none_recontexted, crate::proofs::HeldLaws::instruction_recontexted, crate::proofs::HeldLaws::takes_none, crate::proofs::ArrivedLaws::attempt_admitted), unfolding(snp_model::specs::Step::item_move, snp_model::specs::Touches::item_touches, run_laws::specs::HeldLocks::AreItemLocks, run_laws::specs::OpenAttempts::IsAttempt))]
 fn cpu_event<P: Parts>(
     parts: &mut P,
     number: u32,
@@ -196,7 +196,7 @@ fn cpu_event<P: Parts>(
 
 // The next event of a hypervisor's processor.
 #[inline(never)]
-#[tactic(auto, using(crate::proofs::TouchLaws::frame_has, crate::proofs::HeldLaws::none_relocked, crate::proofs::HeldLaws::none_recontexted, crate::proofs::HeldLaws::instruction_recontexted, crate::proofs::HeldLaws::takes_none), unfolding(snp_model::specs::Step::item_move, snp_model::specs::Touches::item_touches, snp_model::specs::HeldLocks::AreItemLocks))]
+#[tactic(auto, using(crate::proofs::TouchLaws::frame_has, crate::proofs::HeldLaws::none_relocked, crate::proofs::HeldLaws::none_recontexted, crate::proofs::HeldLaws::instruction_recontexted, crate::proofs::HeldLaws::takes_none), unfolding(snp_model::specs::Step::item_move, snp_model::specs::Touches::item_touches, run_laws::specs::HeldLocks::AreItemLocks))]
 fn host_event<P: Parts>(
     parts: &mut P,
     number: u32,
@@ -233,7 +233,7 @@ fn host_event<P: Parts>(
 
 // The next event of a firmware actor.
 #[inline(never)]
-#[tactic(auto, using(crate::proofs::HeldLaws::none_relocked, crate::proofs::HeldLaws::none_recontexted), unfolding(snp_model::specs::Step::item_move, snp_model::specs::Touches::item_touches, snp_model::specs::HeldLocks::AreItemLocks, snp_model::specs::OpenAttempts::IsAttempt))]
+#[tactic(auto, using(crate::proofs::HeldLaws::none_relocked, crate::proofs::HeldLaws::none_recontexted), unfolding(snp_model::specs::Step::item_move, snp_model::specs::Touches::item_touches, run_laws::specs::HeldLocks::AreItemLocks, run_laws::specs::OpenAttempts::IsAttempt))]
 fn firmware_event<P: Parts>(
     parts: &mut P,
     number: u32,

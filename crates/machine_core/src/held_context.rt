@@ -2,9 +2,9 @@ ghost use Rattle.std.specs.Prelude.{◌≡◌, ◌↔◌, List, None, IsSome, Is
 ghost use Rattle.fw_launch.specs.Commits.{HasPassed};
 ghost use Rattle.snp_model.specs.FirmwareCommits.{at_guest, context_after};
 ghost use Rattle.snp_model.specs.FirmwareLocks.{guest_refusal};
-ghost use Rattle.snp_model.specs.KeptLocks.{recontexted};
 ghost use Rattle.snp_model.specs.State.{nothing_taken};
 ghost use Rattle.snp_model.specs.declared.scenario.GuestSpec.{GuestSpec};
+ghost use Rattle.run_laws.specs.KeptLocks.{recontexted};
 ghost use Rattle.machine_core.specs.Bays.{context_holders_of, contexts_of};
 ghost use Rattle.machine_core.specs.Commands.{HoldsContext, HoldsNoContext, context_refused, context_shown};
 ghost use Rattle.machine_core.specs.Moves.{context_by};

@@ -4,22 +4,22 @@ ghost use Rattle.snp_model.specs.declared.scenario.GuestSpec.{GuestSpec};
 ghost use Rattle.snp_model.specs.declared.scenario.Scenario.{Scenario};
 ghost use Rattle.snp_model.specs.Attempts.{attempts_of};
 ghost use Rattle.snp_model.specs.GuestMemory.{opening_memory};
-ghost use Rattle.snp_model.specs.HeldLocks.{AreExclusive, AreLocked, AreTested};
-ghost use Rattle.snp_model.specs.Invariant.{IsUnique};
-ghost use Rattle.snp_model.specs.OpenAttempts.{AreWalking, ReadsMemory};
 ghost use Rattle.snp_model.specs.Opening.{opening};
 ghost use Rattle.snp_model.specs.Past.{Past};
 ghost use Rattle.snp_model.specs.Reading.{Valid};
-ghost use Rattle.snp_model.specs.Ready.{AreReady};
-ghost use Rattle.snp_model.specs.Room.{AreBounded};
 ghost use Rattle.snp_model.specs.Run.{IsDefined, state_after};
-ghost use Rattle.snp_model.specs.Shapes.{AreShaped, IsWholePage};
 ghost use Rattle.snp_model.specs.State.{ActorPart, State, View, part_of};
 ghost use Rattle.snp_model.specs.Step.{event_of, step_of};
 ghost use Rattle.snp_model.specs.Touches.{AgreeBeside, SeeAlike, StepsAlike, touches};
+ghost use Rattle.run_laws.specs.HeldLocks.{AreExclusive, AreLocked, AreTested};
+ghost use Rattle.run_laws.specs.Invariant.{IsUnique};
+ghost use Rattle.run_laws.specs.OpenAttempts.{AreWalking, ReadsMemory};
+ghost use Rattle.run_laws.specs.Ready.{AreReady};
+ghost use Rattle.run_laws.specs.Room.{AreBounded};
+ghost use Rattle.run_laws.specs.Shapes.{AreShaped, IsWholePage};
 
 /// The laws of the machine's step and of its runs. It does nothing.
-#[tactic(auto, using(snp_model::proofs::LocalityLaws::step_alone, snp_model::proofs::OpenAttemptsLaws::event_reads, snp_model::proofs::OpenAttemptsLaws::run_walking, snp_model::proofs::RoomLaws::run_length))]
+#[tactic(auto, using(run_laws::proofs::LocalityLaws::step_alone, run_laws::proofs::OpenAttemptsLaws::event_reads, run_laws::proofs::OpenAttemptsLaws::run_walking, run_laws::proofs::RoomLaws::run_length))]
 pub fn machine_laws()
     // A step depends on nothing but the actor's own part and what it touches.
     ensures local { (frames : ℕ) (guests : List GuestSpec) (part : ActorPart) (one other : View)

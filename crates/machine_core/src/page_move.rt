@@ -4,8 +4,8 @@ ghost use Rattle.snp_model.specs.declared.event.Outcome.TheVariants.{Firmware};
 ghost use Rattle.snp_model.specs.Firmware.{success};
 ghost use Rattle.snp_model.specs.FirmwareCommits.{at_frame, placed, taken};
 ghost use Rattle.snp_model.specs.FirmwareStep.{pages_moved, small_shown};
-ghost use Rattle.snp_model.specs.KeptLocks.{relocked};
 ghost use Rattle.snp_model.specs.Locks.{page_lock};
+ghost use Rattle.run_laws.specs.KeptLocks.{relocked};
 ghost use Rattle.machine_core.specs.Bays.{HasFrame, holders_of, pages_of};
 ghost use Rattle.machine_core.specs.CommandPages.{HoldsLocks, IsTestedFrame, StillHas};
 

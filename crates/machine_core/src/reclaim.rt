@@ -3,8 +3,8 @@ ghost use Rattle.snp_model.specs.declared.event.Outcome.TheVariants.{Firmware};
 ghost use Rattle.snp_model.specs.Firmware.{success};
 ghost use Rattle.snp_model.specs.FirmwareCommits.{reclaimed_page};
 ghost use Rattle.snp_model.specs.FirmwareStep.{page_shown};
-ghost use Rattle.snp_model.specs.KeptLocks.{relocked};
 ghost use Rattle.snp_model.specs.Locks.{over_lock, page_lock};
+ghost use Rattle.run_laws.specs.KeptLocks.{relocked};
 ghost use Rattle.machine_core.specs.Bays.{HasFrame, holders_of, pages_of};
 ghost use Rattle.machine_core.specs.Ranges.{HoldsLock};
 

@@ -1,6 +1,6 @@
 ghost use Rattle.std.specs.Prelude.{◌≡◌, List, [], map, None};
 ghost use Rattle.snp_model.specs.declared.scenario.GuestSpec.{GuestSpec};
-ghost use Rattle.snp_model.specs.KeptLocks.{OwnsContext, OwnsLocks, recontexted, relocked};
+ghost use Rattle.run_laws.specs.KeptLocks.{OwnsContext, OwnsLocks, recontexted, relocked};
 ghost use Rattle.machine_core.specs.Actors.{page_lock_of};
 ghost use Rattle.machine_core.specs.Bays.{HasTouched, contexts_of, holders_of, locks_of, pages_of};
 ghost use Rattle.machine_core.specs.Commands.{AreInOneRegion, frames_touched, let_go_in};

@@ -2,13 +2,13 @@ ghost use Rattle.std.specs.Prelude.{◌≡◌, ◌<◌, ◌^◌, false, length, 
 ghost use Rattle.snp_model.specs.declared.entry.PageSize.TheVariants.{Large};
 ghost use Rattle.snp_model.specs.declared.event.Deed.TheVariants.{Commit};
 ghost use Rattle.snp_model.specs.declared.event.Outcome.TheVariants.{Status};
-ghost use Rattle.snp_model.specs.HeldLocks.{AreInstructionLocks, IsSmashLock};
 ghost use Rattle.snp_model.specs.InstructionStep.{smash_move};
-ghost use Rattle.snp_model.specs.KeptLocks.{OwnsLocks, relocked};
 ghost use Rattle.snp_model.specs.Locks.{page_lock};
 ghost use Rattle.snp_model.specs.RmpUpdate.{is_bad_smash, pages_smashed};
 ghost use Rattle.snp_model.specs.State.{nothing_taken};
 ghost use Rattle.snp_model.specs.Touches.{instruction_touches};
+ghost use Rattle.run_laws.specs.HeldLocks.{AreInstructionLocks, IsSmashLock};
+ghost use Rattle.run_laws.specs.KeptLocks.{OwnsLocks, relocked};
 ghost use Rattle.machine_core.specs.Bays.{HasFrame, HasTouched, contents_of, holders_of, locks_of, pages_of, view_on};
 ghost use Rattle.machine_core.specs.Moves.{TakesPageAlone, lock_shown, locks_by, move_by, standing_by};
 ghost use Rattle.machine_core.specs.Ranges.{HoldsLock, HoldsNone, IsTestedPage, smash_refused};

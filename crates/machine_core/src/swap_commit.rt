@@ -2,8 +2,8 @@ ghost use Rattle.std.specs.Prelude.{◌≡◌, ◌≢◌, [], Some, None, IsSome
 ghost use Rattle.snp_model.specs.declared.event.Outcome.TheVariants.{Firmware};
 ghost use Rattle.snp_model.specs.Firmware.{success};
 ghost use Rattle.snp_model.specs.FirmwareStep.{commit_move};
-ghost use Rattle.snp_model.specs.KeptLocks.{recontexted, relocked};
 ghost use Rattle.snp_model.specs.Sealing.{sealing_of};
+ghost use Rattle.run_laws.specs.KeptLocks.{recontexted, relocked};
 ghost use Rattle.machine_core.specs.Actors.{computed_of};
 ghost use Rattle.machine_core.specs.Bays.{contents_of, holders_of, locks_of, pages_of, view_on};
 ghost use Rattle.machine_core.specs.Commits.{IsBoundedCommand, MayCommit};

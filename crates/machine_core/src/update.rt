@@ -2,12 +2,12 @@ ghost use Rattle.std.specs.Prelude.{◌≡◌, ◌<◌, ◌^◌, false, length, 
 ghost use Rattle.snp_model.specs.declared.event.Deed.TheVariants.{Commit};
 ghost use Rattle.snp_model.specs.declared.event.Outcome.TheVariants.{Status};
 ghost use Rattle.snp_model.specs.Facts.{frames_in};
-ghost use Rattle.snp_model.specs.HeldLocks.{AreInstructionLocks, IsUpdateLock};
 ghost use Rattle.snp_model.specs.InstructionStep.{update_move};
-ghost use Rattle.snp_model.specs.KeptLocks.{OwnsLocks, relocked};
 ghost use Rattle.snp_model.specs.RmpUpdate.{is_bad_update, pages_updated, update_lock};
 ghost use Rattle.snp_model.specs.State.{nothing_taken};
 ghost use Rattle.snp_model.specs.Touches.{instruction_touches};
+ghost use Rattle.run_laws.specs.HeldLocks.{AreInstructionLocks, IsUpdateLock};
+ghost use Rattle.run_laws.specs.KeptLocks.{OwnsLocks, relocked};
 ghost use Rattle.machine_core.specs.Bays.{HasFrame, HasTouched, contents_of, holders_of, locks_of, pages_of, view_on};
 ghost use Rattle.machine_core.specs.Moves.{TakesPageAlone, lock_shown, locks_by, move_by, standing_by};
 ghost use Rattle.machine_core.specs.Ranges.{HoldsLock, HoldsNone, IsTestedRange, update_refused};

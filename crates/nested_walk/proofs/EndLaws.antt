@@ -7,7 +7,7 @@ use Rattle.snp_model.specs.declared.walk.NestedEnd.{NestedEnd}
 use Rattle.snp_model.specs.declared.walk.NestedEnd.TheVariants.{Read, Leaf, Fault}
 use Rattle.snp_model.specs.NestedWalk.{nested_index, after_word, walk_from, first_read, nested_end}
 use Rattle.nested_walk.specs.Entry.{IsRead}
-use Rattle.snp_model.proofs.NestedReadsLaws.{link_of, nested_end-push}
+use Rattle.nested_walk.proofs.NestedReadsLaws.{link_of, nested_end-push}
 
 walk_next : (path : NestedPath) (level table index word : ℕ) (words : List ℕ) → walk_from path level (Read table index) (word ∷ words) ≡ walk_from path (level - 1) (after_word path level word) words
 unfolding walk_from

@@ -5,12 +5,12 @@ use Rattle.snp_model.specs.declared.walk.NestedPath.{NestedPath}
 use Rattle.snp_model.specs.declared.walk.NestedEnd.{NestedEnd}
 use Rattle.snp_model.specs.declared.walk.NestedEnd.TheVariants.{Read, Leaf, Fault}
 use Rattle.snp_model.specs.NestedWalk.{nested_index, after_word, walk_from, nested_end}
-use Rattle.snp_model.proofs.NestedReadsLaws.{link_of, nested_end-push, nested_walk_is}
-use Rattle.snp_model.specs.NestedReads.{IsNestedWalk, nested_reads}
+use Rattle.nested_walk.specs.NestedReads.{IsNestedWalk, nested_reads}
 use Rattle.nested_walk.specs.declared.walk.Walked.{Walked}
 use Rattle.nested_walk.specs.declared.walk.Walked.TheVariants.{More}
 use Rattle.nested_walk.specs.Walk.{Walk, IsStanding}
 use Rattle.nested_walk.specs.Answer.{answer_at, answer_of, end_of}
+use Rattle.nested_walk.proofs.NestedReadsLaws.{link_of, nested_end-push, nested_walk_is}
 
 -- a walk that has read nothing stands at its first read
 pub standing_first : (path : NestedPath) → path.gpn < 2 ^ 36 → path.root < path.frames → IsStanding path path.root (0 ∷ 0 ∷ 0 ∷ 0 ∷ []) 0

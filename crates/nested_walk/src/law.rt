@@ -4,7 +4,7 @@ ghost use Rattle.snp_model.specs.declared.entry.PageSize.{PageSize};
 ghost use Rattle.snp_model.specs.declared.walk.NestedPath.{NestedPath};
 ghost use Rattle.snp_model.specs.declared.walk.NestedEnd.{NestedEnd};
 ghost use Rattle.snp_model.specs.NestedWalk.{nested_end};
-ghost use Rattle.snp_model.specs.NestedReads.{NestedRead, IsNestedWalk, IsPermitted, nested_reads, nested_values};
+ghost use Rattle.nested_walk.specs.NestedReads.{NestedRead, IsNestedWalk, IsPermitted, nested_reads, nested_values};
 
 /// The laws of nested walks. It does nothing.
 pub fn nested_walk_laws()

@@ -1,6 +1,6 @@
 ghost use Rattle.std.specs.Prelude.{◌≡◌, ◌^◌, ◌<◌, [], ◌∷◌, ◌++◌};
 ghost use Rattle.snp_model.specs.NestedWalk.{nested_end};
-ghost use Rattle.snp_model.specs.NestedReads.{IsNestedWalk, nested_reads};
+ghost use Rattle.nested_walk.specs.NestedReads.{IsNestedWalk, nested_reads};
 
 use crate::entry::{after_word, nested_index};
 use snp_model::{NestedEnd, NestedPath, PageSize};

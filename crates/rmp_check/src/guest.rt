@@ -1,8 +1,8 @@
 ghost use Rattle.std.specs.Prelude.{◌≡◌, ◌≢◌, ◌↔◌, true, false};
 ghost use Rattle.snp_model.specs.declared.access.Verdict.TheVariants.{Pass, Hidden};
 ghost use Rattle.snp_model.specs.Accesses.{IsPlace};
-ghost use Rattle.snp_model.specs.Allowed.{IsAllowed};
 ghost use Rattle.snp_model.specs.Verdicts.{is_large, private_verdict, private_refusal, shared_verdict};
+ghost use Rattle.rmp_check.specs.Allowed.{IsAllowed};
 
 use crate::operation::lacks;
 use snp_model::{NestedFault, Op, Outcome, PageSize, Place, RmpEntry, Verdict};

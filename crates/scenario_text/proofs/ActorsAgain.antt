@@ -20,7 +20,7 @@ use Rattle.snp_model.specs.Sound.{IsActor}
 use Rattle.snp_model.specs.Spelling.{joined}
 use Rattle.script_text.proofs.ItemAgain.{below_decimal, ranged_decimal}
 use Rattle.script_text.proofs.SpellingLaws.{IsWord, decimal_word, number_decimal}
-use Rattle.scenario_text.proofs.Spelled.{IsRoleOf, IsSpelledActor}
+use Rattle.snp_model.specs.Spelled.{IsRoleOf, IsSpelledActor}
 use Rattle.scenario_text.proofs.ItemsAgain.{items_make, with_actors}
 use Rattle.scenario_text.proofs.MakesAgain.{makes_append, more_make, said_fits}
 use Rattle.scenario_text.proofs.NamedLines.{named}

@@ -15,7 +15,7 @@ use Rattle.snp_model.specs.Spelling.{joined}
 use Rattle.script_text.proofs.HexWords.{bytes_spelled}
 use Rattle.script_text.proofs.ItemAgain.{ranged_decimal}
 use Rattle.script_text.proofs.SpellingLaws.{IsWord, decimal_word, number_decimal}
-use Rattle.scenario_text.proofs.Spelled.{HasWholeKey}
+use Rattle.snp_model.specs.Spelled.{HasWholeKey}
 use Rattle.scenario_text.proofs.EarlierLaws.{each_earlier, none_passes}
 use Rattle.scenario_text.proofs.KeyAgain.{key_again}
 use Rattle.scenario_text.proofs.NamedLines.{named}

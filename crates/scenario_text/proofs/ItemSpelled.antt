@@ -15,9 +15,8 @@ use Rattle.snp_model.specs.declared.scenario.Role.TheVariants.{Cpu, Host, Firmwa
 use Rattle.snp_model.specs.ItemLines.{address_word, load_row, store_row, swap_row, cas_row, xor_row, skip_test, skip_row, skip_value_row, skip_item, access_item, size_word, flag_word, is_retry_row, retries_word, update_operands, update_row, smash_row, validate_row, adjust_operands, adjust_row, cpu_item, host_item, guest_word, create_operands, activate_operands, start_operands, launch_operands, finish_operands, init_operands, move_operands, reclaim_operands, frames_words, place_words, swap_out_operands, swap_in_operands, metadata_out_operands, metadata_in_operands, root_out_operands, root_in_operands, command_row, sealing_item, firmware_item, item_words}
 use Rattle.snp_model.specs.Lines.{◌>>=◌, below, fixed, is_row, multiple, number, ranged, word}
 use Rattle.snp_model.proofs.LineLaws.{bind_ok, multiple_ok, number_ok}
-use Rattle.script_text.specs.Written.{IsTriedBy, IsWide, IsWideCommand, IsWideTest}
+use Rattle.snp_model.specs.Spelled.{IsTriedBy, IsWide, IsWideCommand, IsWideTest, IsSpelledLine}
 use Rattle.script_text.proofs.SpellingLaws.{below_small}
-use Rattle.scenario_text.proofs.Spelled.{IsSpelledLine}
 use Rattle.scenario_text.proofs.GivesLaws.{Gives, done, none, step, next, choose}
 
 abbrev Spells : Result Line Reason → Type 0

@@ -29,7 +29,7 @@ use Rattle.snp_model.specs.ScenarioText.{item_lines}
 use Rattle.snp_model.specs.Spelling.{access_words, behind, command_words, item_said, item_text, joined, retry_words, skip_words, update_words}
 use Rattle.snp_model.proofs.LineLaws.{select}
 use Rattle.script_text.proofs.WrittenLaws.{written_again}
-use Rattle.scenario_text.proofs.Spelled.{IsSpelledLine}
+use Rattle.snp_model.specs.Spelled.{IsSpelledLine}
 use Rattle.scenario_text.proofs.MakesAgain.{more_make}
 use Rattle.scenario_text.proofs.NamedLines.{is_unnamed, named}
 

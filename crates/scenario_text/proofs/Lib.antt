@@ -11,7 +11,6 @@ pub mod OrdersAgain
 pub mod PagesAgain
 pub mod PagesLaws
 pub mod ScenarioAgain
-pub mod Spelled
 pub mod StepLaws
 pub mod TextAgain
 pub mod TextLaws
@@ -19,3 +18,4 @@ pub mod ValidAgain
 pub mod ValidSpelled
 pub mod WordsAgain
 pub mod WrittenLines
+pub mod FindingLaws

@@ -20,7 +20,7 @@ use Rattle.script_text.proofs.AgainLaws.{size_again, size_spelled}
 use Rattle.script_text.proofs.ItemAgain.{below_decimal, multiple_of}
 use Rattle.snp_model.specs.Spelling.{joined}
 use Rattle.script_text.proofs.SpellingLaws.{IsWord, decimal_word, number_decimal}
-use Rattle.scenario_text.proofs.Spelled.{IsOfOpened}
+use Rattle.snp_model.specs.Spelled.{IsOfOpened}
 use Rattle.scenario_text.proofs.EarlierLaws.{each_earlier, none_passes}
 use Rattle.scenario_text.proofs.NamedLines.{named}
 use Rattle.scenario_text.proofs.MakesAgain.{more_make, said_fits}

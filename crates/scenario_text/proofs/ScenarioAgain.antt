@@ -9,7 +9,7 @@ use Rattle.snp_model.specs.ScenarioLines.{first_scenario}
 use Rattle.snp_model.specs.ScenarioText.{guest_lines, page_lines, word_lines, actor_lines, order_lines, head_lines, scenario_lines, scenario_text}
 use Rattle.snp_model.specs.Sound.{IsSound}
 use Rattle.snp_model.proofs.AttemptLaws.{length-turns_spell}
-use Rattle.scenario_text.proofs.Spelled.{IsSpelled}
+use Rattle.snp_model.specs.Spelled.{IsSpelled}
 use Rattle.scenario_text.proofs.ActorsAgain.{actors_make}
 use Rattle.scenario_text.proofs.GuestsAgain.{guests_make}
 use Rattle.scenario_text.proofs.MakesAgain.{makes_append}

@@ -3,15 +3,15 @@ use Rattle.std.proofs.Common.{◌≡◌, ℕ, ◌+◌, ◌≤◌, List, [], ◌�
 use Rattle.snp_model.specs.declared.scenario.Scenario.{Scenario}
 use Rattle.snp_model.specs.Lines.{parts_at}
 use Rattle.snp_model.specs.Reading.{Made, Fault, refused, passes, fit, most_bytes}
+use Rattle.snp_model.specs.Texts.{end_of, read_parts, read_text}
+use Rattle.snp_model.proofs.ReadingLaws.{some_part}
 use Rattle.scenario_text.specs.declared.fault.ScenarioFault.{ScenarioFault}
 use Rattle.scenario_text.specs.declared.fault.ScenarioFault.TheVariants as faults
 use Rattle.scenario_text.specs.declared.fault.LineFault.{LineFault}
 use Rattle.scenario_text.specs.declared.fault.LineFault.TheVariants.{Refused, Limit, Memory}
-use Rattle.snp_model.specs.Texts.{end_of, read_parts, read_text}
-use Rattle.snp_model.proofs.FindingLaws.{finding_read, reading_of}
-use Rattle.snp_model.proofs.ReadingLaws.{some_part}
 use Rattle.scenario_text.specs.Answers.{Answers}
 use Rattle.scenario_text.specs.Steps.{Fails, FailsAt, Says, SaysFault}
+use Rattle.scenario_text.proofs.FindingLaws.{finding_read, reading_of}
 
 step_parts : (n : ℕ) (made next : Made) (line part : List ℕ) (parts : List (List ℕ)) → fit made line ≡ Ok next → read_parts n made (line ∷ part ∷ parts) ≡ read_parts (n + 1) next (part ∷ parts)
 unfolding read_parts

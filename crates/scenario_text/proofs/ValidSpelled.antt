@@ -23,7 +23,7 @@ use Rattle.snp_model.specs.ScenarioLines.{frames_of, has_no, before_orders, befo
 use Rattle.snp_model.proofs.LineLaws.{guard_ok, require_ok}
 use Rattle.snp_model.proofs.PairLaws.{each_append}
 use Rattle.snp_model.proofs.SoundLaws.{all_take, at_end}
-use Rattle.scenario_text.proofs.Spelled.{HasWholeKey, IsOfOpened, IsPagingOf, IsRoleOf, IsSpelledLine, IsSpelledActor, IsSpelled}
+use Rattle.snp_model.specs.Spelled.{HasWholeKey, IsOfOpened, IsPagingOf, IsRoleOf, IsSpelledLine, IsSpelledActor, IsSpelled}
 use Rattle.scenario_text.proofs.GivesLaws.{Gives, done, none, step, next, choose, ruled}
 use Rattle.scenario_text.proofs.ItemSpelled.{item_spelled}
 

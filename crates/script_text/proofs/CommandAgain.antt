@@ -11,7 +11,7 @@ use Rattle.snp_model.specs.Bounds.{IsFirmwareCommand, IsGuestNumber, IsLaunchedW
 use Rattle.snp_model.specs.ItemLines.{retries_word, guest_word, create_operands, activate_operands, start_operands, launch_operands, finish_operands, init_operands, move_operands, reclaim_operands, frames_words, place_words, swap_out_operands, swap_in_operands, metadata_out_operands, metadata_in_operands, root_out_operands, root_in_operands, command_row, sealing_item, firmware_item}
 use Rattle.snp_model.specs.Lines.{fixed}
 use Rattle.snp_model.specs.Spelling.{flag_text, command_words, item_said, item_text}
-use Rattle.script_text.specs.Written.{IsWideCommand}
+use Rattle.snp_model.specs.Spelled.{IsWideCommand}
 use Rattle.script_text.proofs.AgainLaws.{Again, flag_again, flag_spelled, retried_again}
 use Rattle.script_text.proofs.ItemAgain.{below_decimal, ranged_decimal, tried_below}
 use Rattle.script_text.proofs.SpellingLaws.{IsWord, decimal_word, number_decimal}

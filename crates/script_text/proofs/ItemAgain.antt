@@ -18,7 +18,7 @@ use Rattle.snp_model.specs.EventText.{size_text}
 use Rattle.snp_model.specs.ItemLines.{once, address_word, load_row, store_row, swap_row, cas_row, xor_row, skip_test, skip_row, skip_value_row, skip_item, access_item, retries_word, validate_row, smash_row, update_operands, update_row, adjust_operands, adjust_row, cpu_item, host_item, sealing_item, firmware_item}
 use Rattle.snp_model.specs.Lines.{below, fixed, multiple, ranged}
 use Rattle.snp_model.specs.Spelling.{flag_text, access_words, skip_words, update_words, item_said, retry_words, item_text}
-use Rattle.script_text.specs.Written.{IsTriedBy, IsWide, IsWideTest}
+use Rattle.snp_model.specs.Spelled.{IsTriedBy, IsWide, IsWideTest}
 use Rattle.script_text.proofs.AgainLaws.{Again, IsTried, flag_again, flag_spelled, line_again, retried_again, size_again, size_spelled}
 use Rattle.script_text.proofs.SpellingLaws.{decimal_word, number_decimal}
 

@@ -10,7 +10,7 @@ use Rattle.snp_model.specs.declared.scenario.Role.TheVariants.{Cpu, Host, Firmwa
 use Rattle.snp_model.specs.Bounds.{IsFirmwareItem, IsLineOf}
 use Rattle.snp_model.specs.ItemLines.{item_line}
 use Rattle.snp_model.specs.Spelling.{item_text}
-use Rattle.script_text.specs.Written.{IsTriedBy, IsWide}
+use Rattle.snp_model.specs.Spelled.{IsTriedBy, IsWide}
 use Rattle.script_text.proofs.AgainLaws.{Again}
 use Rattle.script_text.proofs.ItemAgain.{cpu_again, host_again, firmware_skip, made}
 use Rattle.script_text.proofs.CommandAgain.{command_again}

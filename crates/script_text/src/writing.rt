@@ -15,7 +15,7 @@ ghost use Rattle.snp_model.specs.Spelling.{
   retry_words,
   item_text,
 };
-ghost use Rattle.script_text.specs.Written.{IsTriedBy, IsWide, IsWideCommand, IsWideTest};
+ghost use Rattle.snp_model.specs.Spelled.{IsTriedBy, IsWide, IsWideCommand, IsWideTest};
 
 use crate::pen::{put, put_named};
 use snp_model::{Command, Item, Line, Op, PageSize, Role, SkipTest, Update};

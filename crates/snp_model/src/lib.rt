@@ -15,7 +15,6 @@ mod report;
 mod same;
 mod scenario;
 mod standards;
-mod uniqueness;
 mod walk;
 
 pub use access::{Place, Verdict};
@@ -30,5 +29,4 @@ pub use reading::{Quantity, Reason};
 pub use report::GuestLine;
 pub use scenario::{Actor, GuestSpec, PageSpec, Paging, Role, Scenario, Turn, WordSpec};
 pub use standards::{cipher_vectors, digest_vectors, measurement_vectors, sealing_vectors};
-pub use uniqueness::uniqueness_laws;
 pub use walk::{GuestEnd, GuestPath, Lookup, Need, NestedEnd, NestedPath};

@@ -6,7 +6,7 @@ use Rattle.snp_model.specs.declared.reading.Quantity.TheVariants.{Bytes}
 use Rattle.snp_model.specs.declared.reading.Reason.{Reason}
 use Rattle.snp_model.specs.declared.scenario.Scenario.{Scenario}
 use Rattle.snp_model.specs.Ending.{report_of}
-use Rattle.snp_model.specs.Findings.{says, wrong, too_much}
+use Rattle.scenario_text.specs.Findings.{says, wrong, too_much}
 use Rattle.snp_model.specs.Premises.{AreLegal}
 use Rattle.snp_model.specs.Limits.{most}
 use Rattle.snp_model.specs.Opening.{opening}
@@ -16,10 +16,10 @@ use Rattle.snp_model.specs.Report.{report_text}
 use Rattle.snp_model.specs.Run.{IsDefined, IsDefinedFrom, IsOrdered, state_from}
 use Rattle.snp_model.specs.State.{State, IsUnfinished}
 use Rattle.snp_model.specs.Step.{after}
-use Rattle.snp_model.proofs.FindingLaws.{one_finding}
-use Rattle.snp_model.proofs.GuestMemoryLaws.{guests_are_legal}
-use Rattle.snp_model.proofs.OrderedLaws.{run_is_ordered}
+use Rattle.scenario_text.proofs.FindingLaws.{one_finding}
 use Rattle.snp_model.proofs.SoundLaws.{valid_is_sound}
+use Rattle.run_laws.proofs.GuestMemoryLaws.{guests_are_legal}
+use Rattle.run_laws.proofs.OrderedLaws.{run_is_ordered}
 use Rattle.snp_top.specs.declared.fault.CommandFault.{CommandFault}
 use Rattle.snp_top.specs.declared.fault.CommandFault.TheVariants as faults
 use Rattle.snp_top.specs.declared.replay.Played.{Played}

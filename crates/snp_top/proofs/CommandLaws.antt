@@ -10,9 +10,9 @@ use Rattle.snp_model.specs.Limits.{most}
 use Rattle.snp_model.specs.Outside.{Adds, AddsPrefix, Rose}
 use Rattle.snp_model.specs.Reading.{Passes, Reads, Refuses, Valid, order_of}
 use Rattle.snp_model.specs.Run.{IsDefined}
-use Rattle.snp_model.proofs.GuestMemoryLaws.{guests_are_legal}
-use Rattle.snp_model.proofs.OrderedLaws.{run_is_ordered}
 use Rattle.snp_model.proofs.SoundLaws.{valid_is_sound}
+use Rattle.run_laws.proofs.GuestMemoryLaws.{guests_are_legal}
+use Rattle.run_laws.proofs.OrderedLaws.{run_is_ordered}
 use Rattle.snp_top.specs.declared.fault.CommandFault.{CommandFault}
 use Rattle.snp_top.specs.declared.fault.CommandFault.TheVariants as faults
 use Rattle.snp_top.specs.Batch.{ForScenario, Outside, SaysCutReport, SaysLimit, SaysRefusal, SaysRun, Wrote}

@@ -17,12 +17,12 @@ use Rattle.snp_model.specs.Reading.{Valid}
 use Rattle.snp_model.specs.Report.{report_text}
 use Rattle.snp_model.specs.Run.{IsDefinedFrom, run_from, state_from}
 use Rattle.snp_model.specs.State.{State}
-use Rattle.snp_model.proofs.RoomLaws.{run_length}
-use Rattle.snp_model.proofs.RunLaws.{length_run}
 use Rattle.snp_model.proofs.SoundLaws.{valid_is_sound}
+use Rattle.run_laws.proofs.RoomLaws.{run_length}
+use Rattle.run_laws.proofs.RunLaws.{length_run}
+use Rattle.drill_gen.proofs.DrawnValid.{drawn_valid}
 use Rattle.snp_top.specs.declared.replay.Played.{Played}
 use Rattle.snp_top.specs.Drills.{IsDrilled, PlaysPicks, SaysDrill}
-use Rattle.drill_gen.proofs.DrawnValid.{drawn_valid}
 use Rattle.snp_top.proofs.ReplayLaws.{state_guests}
 
 -- the scenario that a drill drew first

@@ -18,8 +18,8 @@ use Rattle.snp_model.specs.Opening.{opening}
 use Rattle.snp_model.specs.Run.{IsDefined, state_after}
 use Rattle.snp_model.specs.State.{ActorPart, State, IsUnfinished}
 use Rattle.snp_model.specs.Step.{after, event_of}
-use Rattle.snp_model.proofs.RoomLaws.{run_has_room}
-use Rattle.snp_model.proofs.RunLaws.{defined_none, defined_push, state_none, state_push}
+use Rattle.run_laws.proofs.RoomLaws.{run_has_room}
+use Rattle.run_laws.proofs.RunLaws.{defined_none, defined_push, state_none, state_push}
 use Rattle.snp_top.specs.Drills.{PicksOn, PlaysPicks}
 use Rattle.snp_top.specs.Schedule.{AtOpening}
 use Rattle.snp_top.proofs.ScheduleLaws.{plays_more, plays_none, plays_whole}

@@ -12,8 +12,8 @@ use Rattle.snp_model.specs.Reading.{Valid, turns_spell, order_of}
 use Rattle.snp_model.specs.Run.{state_from}
 use Rattle.snp_model.specs.State.{Contexts, State}
 use Rattle.snp_model.specs.Step.{after}
-use Rattle.snp_model.proofs.RunLaws.{after_guests, length_run}
 use Rattle.snp_model.proofs.SoundLaws.{valid_is_sound}
+use Rattle.run_laws.proofs.RunLaws.{after_guests, length_run}
 use Rattle.snp_top.specs.Schedule.{AtOpening, Plays}
 
 -- one more guest

@@ -13,9 +13,9 @@ use Rattle.snp_model.specs.Reading.{Valid, turns_spell}
 use Rattle.snp_model.specs.Run.{IsDefinedFrom, run_from, state_from}
 use Rattle.snp_model.specs.State.{State, IsUnfinished}
 use Rattle.snp_model.specs.Step.{event_of, after}
-use Rattle.snp_model.proofs.RoomLaws.{run_has_room, run_length}
 use Rattle.snp_model.proofs.SoundLaws.{valid_is_sound}
-use Rattle.snp_model.proofs.RunLaws.{length_run, run_append, state_append, defined_append, run_none, state_none, defined_none, run_push, state_push, defined_push}
+use Rattle.run_laws.proofs.RoomLaws.{run_has_room, run_length}
+use Rattle.run_laws.proofs.RunLaws.{length_run, run_append, state_append, defined_append, run_none, state_none, defined_none, run_push, state_push, defined_push}
 use Rattle.snp_top.specs.Schedule.{AtOpening, IsFirstBad, IsUnderWay, Plays, PlaysOn}
 
 -- a valid scenario has few attempts

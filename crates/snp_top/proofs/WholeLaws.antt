@@ -10,11 +10,11 @@ use Rattle.snp_model.specs.Reading.{Valid}
 use Rattle.snp_model.specs.Report.{actors_in, report_text, runs_of}
 use Rattle.snp_model.specs.Run.{run_of}
 use Rattle.snp_model.specs.State.{State}
-use Rattle.snp_model.proofs.GuestMemoryLaws.{guests_are_legal}
-use Rattle.snp_model.proofs.JournalsLaws.{is_run_length, is_run_none, state_at_none, unfinished_is_actor}
-use Rattle.snp_model.proofs.OrderedLaws.{run_is_ordered}
-use Rattle.snp_model.proofs.RunLaws.{actors_of_run}
 use Rattle.snp_model.proofs.SoundLaws.{attempts_few, valid_is_sound}
+use Rattle.run_laws.proofs.GuestMemoryLaws.{guests_are_legal}
+use Rattle.run_laws.proofs.JournalsLaws.{is_run_length, is_run_none, state_at_none, unfinished_is_actor}
+use Rattle.run_laws.proofs.OrderedLaws.{run_is_ordered}
+use Rattle.run_laws.proofs.RunLaws.{actors_of_run}
 use Rattle.report_text.proofs.Runs.{runs_spell}
 use Rattle.snp_top.specs.Fleets.{IsWhole, Kept}
 use Rattle.snp_top.specs.Runs.{IsReported}

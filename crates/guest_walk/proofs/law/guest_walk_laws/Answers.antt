@@ -1,4 +1,4 @@
-use Rattle.snp_model.proofs.GuestReadsLaws.{guest_walk_is, only_guest_walk, guest_reads-push, guest_leaf_permits}
+use Rattle.guest_walk.proofs.GuestReadsLaws.{guest_walk_is, only_guest_walk, guest_reads-push, guest_leaf_permits}
 use Rattle.guest_walk.proofs.law.guest_walk_laws.Goals as goal
 
 pub returns : goal.returns

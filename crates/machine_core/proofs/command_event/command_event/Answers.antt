@@ -1,8 +1,8 @@
 use Rattle.std.proofs.Common.{◌≡◌, ℕ, Option, List, is_some, sym, ap, ◌∙◌, subst}
 use Rattle.snp_model.specs.FirmwareStep.{Phase, TakeContext, TakePage, Computing, Committing, phase_move, phase_of}
-use Rattle.snp_model.specs.KeptLocks.{recontexted, relocked}
 use Rattle.snp_model.specs.Sealing.{sealing_of}
 use Rattle.snp_model.specs.State.{PageLock}
+use Rattle.run_laws.specs.KeptLocks.{recontexted, relocked}
 use Rattle.machine_core.specs.declared.command.Next.{Next}
 use Rattle.machine_core.specs.Bays.{contents_of, context_holders_of, holders_of, view_on}
 use Rattle.machine_core.specs.Commands.{CommitsAs, command_page, context_refused, phase_by}

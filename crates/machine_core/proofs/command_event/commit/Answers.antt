@@ -2,7 +2,7 @@ use Rattle.std.proofs.Common.{None, IsSome, refl, sym, ap, ◌∙◌, subst}
 use Rattle.snp_model.specs.declared.command.Command.TheVariants as commands
 use Rattle.snp_model.specs.Firmware.{guest_of}
 use Rattle.snp_model.specs.FirmwareStep.{commit_move}
-use Rattle.snp_model.specs.KeptLocks.{recontexted}
+use Rattle.run_laws.specs.KeptLocks.{recontexted}
 use Rattle.machine_core.specs.Bays.{GuestContexts, contents_of, context_holders_of, contexts_of, pages_of}
 use Rattle.machine_core.proofs.CommitLaws.{guestless_recontexted, metadata_has, of_kind, pageless_relocked, ready, reclaim_has, source_has, still_holds, target_has, target_shown}
 use Rattle.machine_core.proofs.CommittedLaws.{metadata_commits, move_commits, reclaim_commits}

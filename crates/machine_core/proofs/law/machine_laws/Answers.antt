@@ -1,10 +1,10 @@
-use Rattle.snp_model.proofs.LocalityLaws.{step_local}
-use Rattle.snp_model.proofs.LockedRuns.{run_exclusive, run_tested}
-use Rattle.snp_model.proofs.OpeningInvariant.{opening_unique}
-use Rattle.snp_model.proofs.ReadyLaws.{run_ready}
-use Rattle.snp_model.proofs.RoomLaws.{run_bounded}
-use Rattle.snp_model.proofs.SealedLaws.{run_locked, run_shaped}
 use Rattle.snp_model.proofs.SoundLaws.{valid_is_sound}
+use Rattle.run_laws.proofs.LocalityLaws.{step_local}
+use Rattle.run_laws.proofs.LockedRuns.{run_exclusive, run_tested}
+use Rattle.run_laws.proofs.OpeningInvariant.{opening_unique}
+use Rattle.run_laws.proofs.ReadyLaws.{run_ready}
+use Rattle.run_laws.proofs.RoomLaws.{run_bounded}
+use Rattle.run_laws.proofs.SealedLaws.{run_locked, run_shaped}
 use Rattle.machine_core.proofs.law.machine_laws.Goals as goal
 
 pub returns-clause-local : goal.returns-clause-local

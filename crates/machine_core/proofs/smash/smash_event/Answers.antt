@@ -1,9 +1,9 @@
 use Rattle.std.proofs.Common.{sym, ap, ◌∙◌, [], ◌∷◌}
 use Rattle.snp_model.specs.declared.entry.PageSize.TheVariants.{Large}
-use Rattle.snp_model.specs.HeldLocks.{IsSmashLock}
 use Rattle.snp_model.specs.Locks.{page_lock}
 use Rattle.snp_model.specs.RmpUpdate.{is_bad_smash}
 use Rattle.snp_model.specs.State.{PageLock}
+use Rattle.run_laws.specs.HeldLocks.{IsSmashLock}
 use Rattle.machine_core.specs.Bays.{contents_of}
 use Rattle.machine_core.proofs.HeldLaws.{commit_has, has_none, has_one, holds_lock, lock_has}
 use Rattle.machine_core.proofs.SmashLaws.{commit_moves, lock_moves, smash_lock_is, smash_tested}

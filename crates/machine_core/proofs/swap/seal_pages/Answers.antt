@@ -1,7 +1,7 @@
 use Rattle.std.proofs.Common.{ℕ, [], None, Some, ap, ◌∙◌}
 use Rattle.snp_model.specs.declared.event.Outcome.TheVariants.{Firmware}
 use Rattle.snp_model.specs.FirmwareStep.{small_shown}
-use Rattle.snp_model.specs.KeptLocks.{relocked}
+use Rattle.run_laws.specs.KeptLocks.{relocked}
 use Rattle.machine_core.specs.declared.shown.Shown.{Shown}
 use Rattle.machine_core.specs.Bays.{pages_of}
 use Rattle.machine_core.specs.Seals.{sealing_locks, slot_by, what_by}

@@ -1,5 +1,5 @@
 use Rattle.std.proofs.Common.{is_some, None, IsSome, sym, ap, ◌∙◌, subst}
-use Rattle.snp_model.specs.KeptLocks.{recontexted}
+use Rattle.run_laws.specs.KeptLocks.{recontexted}
 use Rattle.machine_core.specs.Actors.{computed_of}
 use Rattle.machine_core.specs.Bays.{GuestContexts, context_holders_of, holders_of, pages_of}
 use Rattle.machine_core.specs.Seals.{sealing_by}

@@ -1,6 +1,6 @@
 use Rattle.std.proofs.Common.{sym, ◌∙◌}
-use Rattle.snp_model.specs.HeldLocks.{IsUpdateLock}
 use Rattle.snp_model.specs.RmpUpdate.{is_bad_update}
+use Rattle.run_laws.specs.HeldLocks.{IsUpdateLock}
 use Rattle.machine_core.specs.Bays.{contents_of}
 use Rattle.machine_core.proofs.HeldLaws.{commit_has, has_none, has_one, lock_has}
 use Rattle.machine_core.proofs.UpdateLaws.{commit_moves, lock_moves, update_tested}

@@ -1,4 +1,4 @@
-use Rattle.snp_model.proofs.NestedReadsLaws.{nested_walk_is, only_nested_walk, nested_reads-push, nested_leaf_permits}
+use Rattle.nested_walk.proofs.NestedReadsLaws.{nested_walk_is, only_nested_walk, nested_reads-push, nested_leaf_permits}
 use Rattle.nested_walk.proofs.law.nested_walk_laws.Goals as goal
 
 pub returns : goal.returns

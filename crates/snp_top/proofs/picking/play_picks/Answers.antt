@@ -3,7 +3,7 @@ use Rattle.std.proofs.lemmas.List.{length-append}
 use Rattle.machine_core.specs.Machine.{state_of}
 use Rattle.snp_model.specs.Generated.{draw}
 use Rattle.snp_model.specs.State.{State}
-use Rattle.snp_model.proofs.RunLaws.{after_length}
+use Rattle.run_laws.proofs.RunLaws.{after_length}
 use Rattle.snp_top.proofs.PickLaws.{actor_ends, actor_goes_on, picks_more, picks_none, picks_whole}
 use Rattle.snp_top.proofs.ScheduleLaws.{goes_on, opening_under_way, room_left}
 use Rattle.snp_top.proofs.picking.play_picks.Goals as goal

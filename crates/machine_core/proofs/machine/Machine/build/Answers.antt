@@ -5,10 +5,10 @@ use Rattle.snp_model.specs.Facts.{free_entry}
 use Rattle.snp_model.specs.Opening.{facts_from, words_from, opening_part}
 use Rattle.snp_model.specs.HeldContexts.{opening_held}
 use Rattle.snp_model.specs.State.{zero_words}
+use Rattle.snp_model.proofs.SoundLaws.{valid_is_sound}
+use Rattle.run_laws.proofs.OpeningParts.{opening_shaped}
 use Rattle.machine_core.specs.Bays.{facts_of, own_bays, own_contexts, words_of}
 use Rattle.machine_core.proofs.OpeningLaws.{IsBuilt, opened, built_machine, short_scripts}
-use Rattle.snp_model.proofs.OpeningParts.{opening_shaped}
-use Rattle.snp_model.proofs.SoundLaws.{valid_is_sound}
 use Rattle.machine_core.proofs.machine.Machine.build.Goals as goal
 
 pub set_pages-requires-clause-pages : goal.set_pages-requires-clause-pages

@@ -1,0 +1,11 @@
+pub mod HeldLocks
+pub mod Invariant
+pub mod KeptLocks
+pub mod MadePages
+pub mod OpenAttempts
+pub mod Operands
+pub mod Ready
+pub mod Room
+pub mod Shapes
+pub mod UniqueRuns
+pub mod Uniqueness
