@@ -32,7 +32,10 @@ rose_kept before mid after rose later = (omega arith, omega arith)
 pub rose_behind : (before mid after : ℕ) → before ≤ mid → Rose mid after → Rose before after
 rose_behind before mid after later rose = (omega arith, omega arith)
 
-line_kept : (old mid now : Option (List ℕ)) (before between after : ℕ) (line : List ℕ) → WritesLine old mid before between line → Adds mid now [] → between ≤ after → WritesLine old now before after line
+pub later_kept : (before mid after : ℕ) → before ≤ mid → mid ≤ after → before ≤ after
+later_kept before mid after one other = omega arith
+
+pub line_kept : (old mid now : Option (List ℕ)) (before between after : ℕ) (line : List ℕ) → WritesLine old mid before between line → Adds mid now [] → between ≤ after → WritesLine old now before after line
 line_kept old mid now before between after line (inl adds) flushed later = inl (adds_kept old mid now line adds flushed)
 line_kept old mid now before between after line (inr cut) flushed later = inr (prefix_kept old mid now line cut.0 flushed, rose_kept before between after cut.1 later)
 
@@ -148,6 +151,12 @@ other_status (suc n) result k is apart meant = let same = is.other (λ e. absurd
 
 pub same_status : (status result k : ℕ) → IsUnflushed status result → 0 < k → status ≡ k → result ≡ k
 same_status status result k is some meant = is.other (λ e. absurd (omega (arith, e))) ∙ meant
+
+-- what is refused stays refused by the same status, unless reading or memory failed
+pub refused_status : (status result k : ℕ) → IsUnflushed status result → 0 < k → (status ≡ k) ⊎ ((status ≡ 5) ⊎ (status ≡ 7)) → (result ≡ k) ⊎ ((result ≡ 5) ⊎ (result ≡ 7))
+refused_status status result k is some (inl same) = inl (same_status status result k is some same)
+refused_status status result k is some (inr (inl five)) = inr (inl (same_status status result 5 is (omega arith) five))
+refused_status status result k is some (inr (inr seven)) = inr (inr (same_status status result 7 is (omega arith) seven))
 
 pub cut_status : (status result : ℕ) → IsUnflushed status result → result ≡ 6 → (status ≡ 0) ⊎ (status ≡ 6)
 cut_status zero result is meant = inl (omega arith)
