@@ -1,0 +1,7 @@
+//! Theorems on all steps and runs that no code rests on, for who reasons about the machine: the functions do nothing, and their
+//! contracts are the theorems.
+#![tactic(auto)]
+
+mod refusal;
+
+pub use refusal::refused_steps;
