@@ -1,5 +1,5 @@
 -- What an event of each item is: one that changes nothing, a lock, an access, a commit of an instruction, or an event of a command. So what holds of these holds of every event.
-use Rattle.std.proofs.Common.{◌≡◌, ℕ, ◌/◌, Bool, not, List, [], ◌∷◌, Option, Some, None, Result, refl}
+use Rattle.std.proofs.Common.{◌≡◌, ℕ, ◌/◌, Bool, true, false, not, List, [], ◌∷◌, Option, Some, None, Result, refl}
 use Rattle.std.proofs.lemmas.Bool.{cond_both}
 use Rattle.snp_model.specs.declared.access.Verdict.{Verdict}
 use Rattle.snp_model.specs.declared.access.Verdict.TheVariants.{Pass, Hidden, Fault}
@@ -44,6 +44,7 @@ pub record OfCommand (P : Move → Type 0) (contents : Contents) (part : ActorPa
   pub locks : (lock : PageLock) (refusal : Option Outcome) → P (lock_move contents part lock refusal)
   pub computes : (result : Result Computed FwRefusal) → P (computed_move contents part result)
   pub commits : P (commit_move contents part command)
+  pub misplaced : P (quiet_move contents part deeds.Control (Some outcomes.Next))  -- an actor of another role has it
 
 lock_of : (P : Move → Type 0) (contents : Contents) (part : ActorPart) (lock : PageLock) (refusal : Option Outcome) → OfPlain P contents part → P (lock_move contents part lock refusal)
 unfolding lock_move
@@ -125,22 +126,35 @@ phase_of_command P frames guests view part command (TakePage page) of = of.locks
 phase_of_command P frames guests view part command (Computing sealing) of = of.computes (compute_of view.contents sealing)
 phase_of_command P frames guests view part command Committing of = of.commits
 
+-- whether an item is a command of the firmware
+abbrev pub is_command : Item → Bool
+is_command (items.Firmware command) = true
+is_command item = false
+
 -- what holds of both holds of the event of every item
-pub every_event : (P : Move → Type 0) (frames : ℕ) (guests : List GuestSpec) (view : View) (part : ActorPart) (role : Role) (item : Item) → OfPlain P view.contents part
+pub every_event : (P : Move → Type 0) (frames : ℕ) (guests : List GuestSpec) (view : View) (part : ActorPart) (role : Role) (item : Item) → (is_command item ≡ false → OfPlain P view.contents part)
     → ((command : Command) → item ≡ items.Firmware command → OfCommand P view.contents part command) → P (item_move frames guests view part role item)
 unfolding item_move
 every_event P frames guests view part (Cpu owner vmpl npt paging) (items.Access address op) of commands =
     let cpu : Processor = record { guest = owner; vmpl = vmpl; npt = npt; paging = paging } in
-    walked_of P frames guests view.contents part cpu (lookup_of address op) None _ part.deeds of (data_of P guests view.contents part cpu address op of)
+    walked_of P frames guests view.contents part cpu (lookup_of address op) None _ part.deeds (of refl) (data_of P guests view.contents part cpu address op (of refl))
 every_event P frames guests view part (Cpu owner vmpl npt paging) (items.Pvalidate address size validate) of commands =
     let cpu : Processor = record { guest = owner; vmpl = vmpl; npt = npt; paging = paging } in
-    walked_of P frames guests view.contents part cpu (page_lookup address) (validate_begin cpu address size) _ part.deeds of (validate_of P guests view part cpu size validate part.standing.locks of)
+    walked_of P frames guests view.contents part cpu (page_lookup address) (validate_begin cpu address size) _ part.deeds (of refl) (validate_of P guests view part cpu size validate part.standing.locks (of refl))
 every_event P frames guests view part (Cpu owner vmpl npt paging) (items.Rmpadjust address size target mask vmsa) of commands =
     let cpu : Processor = record { guest = owner; vmpl = vmpl; npt = npt; paging = paging } in
-    walked_of P frames guests view.contents part cpu (page_lookup address) (adjust_begin cpu address size target mask) _ part.deeds of
-    (adjust_of P guests view part cpu size target mask vmsa part.standing.locks of)
-every_event P frames guests view part Host (items.Access address op) of commands = host_of P view.contents part address op of
-every_event P frames guests view part Host (items.Rmpupdate update) of commands = update_of P frames view part update part.standing.locks of
-every_event P frames guests view part Host (items.Psmash frame) of commands = smash_of P frames view part frame part.standing.locks of
+    walked_of P frames guests view.contents part cpu (page_lookup address) (adjust_begin cpu address size target mask) _ part.deeds (of refl)
+    (adjust_of P guests view part cpu size target mask vmsa part.standing.locks (of refl))
+every_event P frames guests view part Host (items.Access address op) of commands = host_of P view.contents part address op (of refl)
+every_event P frames guests view part Host (items.Rmpupdate update) of commands = update_of P frames view part update part.standing.locks (of refl)
+every_event P frames guests view part Host (items.Psmash frame) of commands = smash_of P frames view part frame part.standing.locks (of refl)
 every_event P frames guests view part Firmware (items.Firmware command) of commands = phase_of_command P frames guests view part command (phase_of command part.standing) (commands command refl)
-every_event P frames guests view part role item of commands = of.quiet _ _
+every_event P frames guests view part role (items.Firmware command) of commands = (commands command refl).misplaced
+every_event P frames guests view part role (items.Access address op) of commands = (of refl).quiet _ _
+every_event P frames guests view part role (items.Pvalidate address size validate) of commands = (of refl).quiet _ _
+every_event P frames guests view part role (items.Rmpadjust address size target mask vmsa) of commands = (of refl).quiet _ _
+every_event P frames guests view part role (items.Rmpupdate update) of commands = (of refl).quiet _ _
+every_event P frames guests view part role (items.Psmash frame) of commands = (of refl).quiet _ _
+every_event P frames guests view part (Cpu owner vmpl npt paging) (items.Skip count test) of commands = (of refl).quiet _ _
+every_event P frames guests view part Host (items.Skip count test) of commands = (of refl).quiet _ _
+every_event P frames guests view part Firmware (items.Skip count test) of commands = (of refl).quiet _ _

@@ -67,6 +67,7 @@ command_still contents part command = record {
   locks = lock_still contents part;
   computes = computed_still contents part;
   commits = commit_still contents part command;
+  misplaced = λ outcome said refused. refl;
 }
 
 -- so each actor's step
@@ -74,7 +75,7 @@ pub refused_still : (m : State) (actor : ℕ) (outcome : Outcome) → (event_of 
 unfolding event_of after
 refused_still m actor =
     let part = part_of m actor in
-    every_event (IsStill m.contents) m.frames m.guests (view_of m) part part.role (line_at part.script part.item).item (plain_still m.contents part) (λ command is. command_still m.contents part command)
+    every_event (IsStill m.contents) m.frames m.guests (view_of m) part part.role (line_at part.script part.item).item (λ plain. plain_still m.contents part) (λ command is. command_still m.contents part command)
 
 -- the end of an attempt releases all
 closed : (part : ActorPart) (move : Move) (ended : Option Outcome) (outcome : Outcome) → ended ≡ Some outcome → (part_after part move ended).standing ≡ nothing_taken

@@ -2,6 +2,8 @@
 //! contracts are the theorems.
 #![tactic(auto)]
 
+mod launch;
 mod refusal;
 
+pub use launch::launch_digests;
 pub use refusal::refused_steps;
