@@ -1,3 +1,5 @@
+pub mod ArchiveLaws
+pub mod CounterLaws
 pub mod EventLaws
 pub mod LaunchLaws
 pub mod RefusalLaws

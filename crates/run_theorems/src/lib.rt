@@ -2,8 +2,10 @@
 //! contracts are the theorems.
 #![tactic(auto)]
 
+mod counter;
 mod launch;
 mod refusal;
 
+pub use counter::sealing_counters;
 pub use launch::launch_digests;
 pub use refusal::refused_steps;
