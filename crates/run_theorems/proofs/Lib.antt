@@ -3,3 +3,4 @@ pub mod CounterLaws
 pub mod EventLaws
 pub mod LaunchLaws
 pub mod RefusalLaws
+pub mod SealedPages

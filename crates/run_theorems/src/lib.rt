@@ -5,7 +5,9 @@
 mod counter;
 mod launch;
 mod refusal;
+mod sealing;
 
 pub use counter::sealing_counters;
 pub use launch::launch_digests;
 pub use refusal::refused_steps;
+pub use sealing::sealed_pages;
