@@ -6,8 +6,8 @@ ghost use Rattle.run_theorems.specs.Refusals.{is_refusal};
 
 /// A refusal changes nothing. Whatever an actor attempts, in whatever state, be it an access, an instruction or a command of
 /// the firmware, and whichever of its events it is that is refused: memory, RMP entries and guests' contexts are as before, the
-/// actor keeps no lock and no page that a compute has made, and no other actor notices. So a hypervisor or a guest that is answered
-/// with a fault or with a status other than success may try again, or something else, as if it had never asked.
+/// actor keeps no lock and no page that a compute has made, and all others are where they were. So a hypervisor or a guest that is
+/// answered with a fault or with a status other than success may try again, or something else, as if it had never asked.
 pub fn refused_steps()
     // Words, facts of frames and contexts of guests stay.
     ensures still { (m : State) (actor : ℕ) (outcome : Outcome) → (event_of m actor).outcome ≡ Some outcome → is_refusal outcome ≡ true
