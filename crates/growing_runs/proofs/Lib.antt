@@ -1,5 +1,9 @@
 pub mod DisciplineWith
+pub mod DriveLaws
+pub mod DuelLaws
 pub mod EndLaws
 pub mod ExtendingLaws
 pub mod GrownRuns
+pub mod LiveLaws
 pub mod PlainLaws
+pub mod SimulateLaws

@@ -1,2 +1,4 @@
+pub mod Drives
+pub mod Duels
 pub mod Extending
 pub mod Plain

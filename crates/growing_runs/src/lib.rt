@@ -1,7 +1,9 @@
-//! Runs whose scripts go on: what was run stays the run when an actor gets further items. The functions do nothing, and their
-//! contracts are the laws.
+//! Runs whose scripts go on: what was run stays the run when an actor gets further items (laws: functions that do nothing), what a
+//! driven run is, and what the two of a duel see.
 #![tactic(auto)]
 
 mod law;
+mod sight;
 
 pub use law::{disciplined_scripts, ended_scripts, extended_scripts, plain_scripts};
+pub use sight::{Duel, Sight};

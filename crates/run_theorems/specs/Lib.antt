@@ -1,3 +1,4 @@
 pub mod Counters
 pub mod Launches
+pub mod Ranges
 pub mod Refusals

@@ -3,11 +3,13 @@
 #![tactic(auto)]
 
 mod counter;
+mod guest;
 mod launch;
 mod refusal;
 mod sealing;
 
 pub use counter::sealing_counters;
+pub use guest::{ranged_events, running_guests};
 pub use launch::launch_digests;
 pub use refusal::refused_steps;
 pub use sealing::sealed_pages;
