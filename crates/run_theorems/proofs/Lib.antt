@@ -2,6 +2,7 @@ pub mod ArchiveLaws
 pub mod CounterLaws
 pub mod EventLaws
 pub mod LaunchLaws
+pub mod LockTouches
 pub mod RangeLaws
 pub mod RefusalLaws
 pub mod RunningLaws

@@ -2,3 +2,4 @@ pub mod Counters
 pub mod Launches
 pub mod Ranges
 pub mod Refusals
+pub mod TouchedLocks

@@ -5,11 +5,13 @@
 mod counter;
 mod guest;
 mod launch;
+mod lock;
 mod refusal;
 mod sealing;
 
 pub use counter::sealing_counters;
 pub use guest::{ranged_events, running_guests};
 pub use launch::launch_digests;
+pub use lock::touched_locks;
 pub use refusal::refused_steps;
 pub use sealing::sealed_pages;
