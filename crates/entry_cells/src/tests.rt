@@ -50,6 +50,17 @@ fn cells_for_two(
 }
 
 #[test]
+fn thirty_two_actors_have_a_pass_each(rt: HostRuntime) -> Result<(), Fail> {
+    let log = Log {
+        cells: 4,
+        list: Vec::with_capacity(rt.alloc(), 0)?,
+    };
+    let (_, passes) = Cells::build(rt.alloc(), zeros(rt.alloc(), 4)?, log, 32)?;
+    assert!(rt; passes.len() == 32);
+    Ok(())
+}
+
+#[test]
 fn a_cell_is_taken_by_one_pass_at_a_time(rt: HostRuntime) -> Result<(), Fail> {
     let (cells, mut first, mut second) = cells_for_two(rt.alloc(), 2, 0)?;
     let Ok(taken) = cells.try_take(&mut first, 0) else {
