@@ -1,4 +1,5 @@
 pub mod ArchiveLaws
+pub mod CheckedReadLaws
 pub mod CounterLaws
 pub mod EventLaws
 pub mod LaunchLaws

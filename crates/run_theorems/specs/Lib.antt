@@ -1,3 +1,4 @@
+pub mod CheckedReads
 pub mod Counters
 pub mod Launches
 pub mod Ranges

@@ -8,6 +8,7 @@ mod launch;
 mod lock;
 mod refusal;
 mod sealing;
+mod table;
 
 pub use counter::sealing_counters;
 pub use guest::{ranged_events, running_guests};
@@ -15,3 +16,4 @@ pub use launch::launch_digests;
 pub use lock::touched_locks;
 pub use refusal::refused_steps;
 pub use sealing::sealed_pages;
+pub use table::checked_reads;
