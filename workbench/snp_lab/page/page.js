@@ -306,6 +306,8 @@
   byId('drawer').addEventListener('click', () => {
     const open = document.querySelector('aside').classList.toggle('open');
     byId('drawer').setAttribute('aria-expanded', open);
+    layout();
+    if (chosen >= 0) { reveal(chosen); }
   });
   function followLink() {
     const asked = /^#e(\d+)$/.exec(location.hash);
