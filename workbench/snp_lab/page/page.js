@@ -133,12 +133,13 @@
   }
 
   function layout() {
+    // the height first: its scrollbar takes some of the width
+    canvas.style.height = events.length * ROW + 'px';
     const room = time.clientWidth - NUMBER;
     width = Math.max(165, Math.floor(room / Math.max(1, data.actors.length)));
     heads.replaceChildren(head('event', '', NUMBER), ...data.actors.map((actor) => head('actor ' + actor.number, actor.title, width)));
     heads.style.width = left(data.actors.length) + 'px';
     canvas.style.width = left(data.actors.length) + 'px';
-    canvas.style.height = events.length * ROW + 'px';
     draw();
     overview();
   }
@@ -320,7 +321,7 @@
 
   time.setAttribute('aria-rowcount', events.length + 1);
   time.setAttribute('aria-colcount', data.actors.length + 1);
-  byId('summary').textContent = events.length + ' events of ' + data.actors.length + ' actors, ' + counted(faults.length, 'fault', 'faults')
+  byId('summary').textContent = counted(events.length, 'event', 'events') + ' of ' + counted(data.actors.length, 'actor', 'actors') + ', ' + counted(faults.length, 'fault', 'faults')
     + ', ' + counted(notable.length - faults.length, 'refusal', 'refusals') + data.guests.map((guest) => '; ' + guest).join('');
   fillItems();
   fold();
