@@ -133,13 +133,15 @@
   }
 
   function layout() {
+    // the height first: its scrollbar takes some of the width
+    canvas.style.height = events.length * ROW + 'px';
     const room = time.clientWidth - NUMBER;
-    width = Math.max(290, Math.floor(room / Math.max(1, data.actors.length)));
+    width = Math.max(165, Math.floor(room / Math.max(1, data.actors.length)));
     heads.replaceChildren(head('event', '', NUMBER), ...data.actors.map((actor) => head('actor ' + actor.number, actor.title, width)));
     heads.style.width = left(data.actors.length) + 'px';
     canvas.style.width = left(data.actors.length) + 'px';
-    canvas.style.height = events.length * ROW + 'px';
     draw();
+    overview();
   }
 
   function reveal(k) {
@@ -187,13 +189,39 @@
     if (at >= 0 && at < list.length) { choose(list[at]); }
   }
 
-  const faults = [];
-  events.forEach((event, k) => { if (event.mark === 2) { faults.push(k); } });
+  const notable = [];
+  events.forEach((event, k) => { if (event.mark) { notable.push(k); } });
+  const faults = notable.filter((k) => events[k].mark === 2);
+
+  // The whole run in one strip: each fault and refusal at its place, and what is in view.
+  function overview() {
+    const strip = byId('overview'), high = strip.clientHeight, wide = strip.clientWidth, style = getComputedStyle(strip);
+    strip.width = wide;
+    strip.height = high;
+    const pen = strip.getContext('2d'), whole = Math.max(1, events.length);
+    pen.fillStyle = style.getPropertyValue('--view');
+    pen.fillRect(0, time.scrollTop / ROW / whole * high, wide, Math.max(3, time.clientHeight / ROW / whole * high));
+    for (const mark of [1, 2]) {
+      pen.fillStyle = style.getPropertyValue(mark === 2 ? '--fault' : '--refusal');
+      notable.forEach((k) => { if (events[k].mark === mark) { pen.fillRect(2, Math.floor(k / whole * high), wide - 4, 2); } });
+    }
+  }
+
+  function chooseAt(click) {
+    const strip = byId('overview'), at = Math.floor((click.clientY - strip.getBoundingClientRect().top) / strip.clientHeight * events.length);
+    const near = events.length / strip.clientHeight * 3, next = lowest(notable.length, (one) => notable[one] >= at);
+    const marked = notable.slice(Math.max(0, next - 1), next + 1).filter((k) => Math.abs(k - at) <= near);
+    marked.sort((one, other) => Math.abs(one - at) - Math.abs(other - at));
+    choose(marked.length ? marked[0] : Math.max(0, Math.min(events.length - 1, at)));
+    time.focus({preventScroll: true});
+  }
+
+  function counted(number, one, many) { return number + ' ' + (number === 1 ? one : many); }
 
   function nextFault(forward) {
-    if (!faults.length) { return; }
-    const beyond = forward ? faults[faults.length - 1] <= chosen : faults[0] >= chosen;
-    if (beyond) { choose(forward ? faults[0] : faults[faults.length - 1]); } else { step(faults, forward); }
+    if (!notable.length) { return; }
+    const beyond = forward ? notable[notable.length - 1] <= chosen : notable[0] >= chosen;
+    if (beyond) { choose(forward ? notable[0] : notable[notable.length - 1]); } else { step(notable, forward); }
   }
 
   function find() {
@@ -246,7 +274,7 @@
     });
   }
 
-  time.addEventListener('scroll', () => requestAnimationFrame(draw), {passive: true});
+  time.addEventListener('scroll', () => requestAnimationFrame(() => { draw(); overview(); }), {passive: true});
   canvas.addEventListener('click', (click) => {
     const cell = click.target.closest('.event');
     if (cell) { choose(Number(cell.dataset.event)); time.focus({preventScroll: true}); }
@@ -269,18 +297,37 @@
     if (moves[key.key] && !key.ctrlKey && !key.altKey && !key.metaKey) { key.preventDefault(); moves[key.key](); }
   });
   document.addEventListener('keydown', (key) => {
-    if (key.key === '/' && document.activeElement !== search) { key.preventDefault(); search.focus(); search.select(); }
+    if (key.key === '/' && document.activeElement !== search) { key.preventDefault(); byId('tools').open = true; search.focus(); search.select(); }
   });
+  const slim = matchMedia('(max-width: 900px)');
+  function fold() { byId('tools').open = !slim.matches; }
+  slim.addEventListener('change', fold);
+  matchMedia('(prefers-color-scheme: dark)').addEventListener('change', overview);
+  byId('overview').addEventListener('click', chooseAt);
+  byId('drawer').addEventListener('click', () => {
+    const open = document.querySelector('aside').classList.toggle('open');
+    byId('drawer').setAttribute('aria-expanded', open);
+    layout();
+    if (chosen >= 0) { reveal(chosen); }
+  });
+  function followLink() {
+    const asked = /^#e(\d+)$/.exec(location.hash);
+    const there = asked !== null && Number(asked[1]) < events.length;
+    if (there) { choose(Number(asked[1])); }
+    return there;
+  }
+  window.addEventListener('hashchange', followLink);
   window.addEventListener('resize', layout);
 
   time.setAttribute('aria-rowcount', events.length + 1);
   time.setAttribute('aria-colcount', data.actors.length + 1);
-  byId('summary').textContent = events.length + ' events of ' + data.actors.length + ' actors, ' + faults.length + ' fault' + (faults.length === 1 ? '' : 's')
-    + data.guests.map((guest) => '; ' + guest).join('');
+  byId('summary').textContent = counted(events.length, 'event', 'events') + ' of ' + counted(data.actors.length, 'actor', 'actors') + ', ' + counted(faults.length, 'fault', 'faults')
+    + ', ' + counted(notable.length - faults.length, 'refusal', 'refusals') + data.guests.map((guest) => '; ' + guest).join('');
   fillItems();
+  fold();
   layout();
-  const asked = /^#e(\d+)$/.exec(location.hash);
-  if (asked) { choose(Number(asked[1])); } else if (events.length) { choose(faults.length ? faults[0] : 0); }
+  if (!followLink() && events.length) { choose(faults.length ? faults[0] : 0); }
+  time.focus({preventScroll: true});
   document.body.dataset.ready = events.length;
   document.body.dataset.milliseconds = Math.round(performance.now());
 })();
