@@ -3,8 +3,8 @@ pub mod CheckedReadLaws
 pub mod CounterLaws
 pub mod EventLaws
 pub mod LaunchLaws
-pub mod LockTouches
 pub mod RangeLaws
 pub mod RefusalLaws
 pub mod RunningLaws
 pub mod SealedPages
+pub mod TouchedLocksLaws

@@ -5,7 +5,7 @@
 mod counter;
 mod guest;
 mod launch;
-mod lock;
+mod locks;
 mod refusal;
 mod sealing;
 mod table;
@@ -13,7 +13,7 @@ mod table;
 pub use counter::sealing_counters;
 pub use guest::{ranged_events, running_guests};
 pub use launch::launch_digests;
-pub use lock::touched_locks;
+pub use locks::touched_locks;
 pub use refusal::refused_steps;
 pub use sealing::sealed_pages;
 pub use table::checked_reads;

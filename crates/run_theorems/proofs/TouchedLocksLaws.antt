@@ -1,4 +1,4 @@
--- What an event has locked before it and after it, it touches.
+-- What an event has locked before it and after it, it touches; so a lock changes its holder only where the event touches its page or context.
 use Rattle.std.proofs.Common.{◌≡◌, ◌⊎◌, ℕ, zero, suc, ◌+◌, ◌-◌, ◌%◌, ◌<◌, ◌≤◌, Bool, true, false, not, ◌||◌, cond, eqb, nat_lt, List, [], ◌∷◌, ◌++◌, Option, Some, None, Result, Ok, Err, is_some, unwrap_or, inl, inr, refl, sym, ap, ◌∙◌, subst, ⊎_elim, arith}
 use Rattle.std.proofs.lemmas.Bool.{cond_both, true≢false}
 use Rattle.std.proofs.lemmas.Bool.Decides.{nat_tests}
@@ -22,36 +22,39 @@ use Rattle.snp_model.specs.declared.item.Update.{Update}
 use Rattle.snp_model.specs.declared.scenario.GuestSpec.{GuestSpec}
 use Rattle.snp_model.specs.declared.scenario.Role.{Role}
 use Rattle.snp_model.specs.declared.scenario.Role.TheVariants.{Cpu, Host, Firmware}
+use Rattle.snp_model.specs.declared.scenario.Scenario.{Scenario}
 use Rattle.snp_model.specs.declared.walk.Lookup.{Lookup}
 use Rattle.snp_model.specs.declared.walk.Need.{Need}
 use Rattle.snp_model.specs.declared.walk.Need.TheVariants as needs
-use Rattle.snp_model.specs.declared.scenario.Scenario.{Scenario}
-use Rattle.snp_model.specs.Run.{IsDefined, state_after}
-use Rattle.snp_model.specs.Sound.{IsSound}
-use Rattle.run_laws.proofs.LockedRuns.{part_walking}
-use Rattle.run_laws.proofs.SealedRuns.{run_order}
+use Rattle.snp_model.specs.Entries.{released}
 use Rattle.snp_model.specs.FirmwareStep.{Phase, TakeContext, TakePage, Computing, Committing, context_phase, pages_phase, phase_of, phase_move, take_context, context_taken, take_page, computed_move, commit_move, refused, lock_refusal}
 use Rattle.snp_model.specs.FirmwareLocks.{frame_refusal, guest_refusal}
 use Rattle.snp_model.specs.Firmware.{CommandPage, guest_of}
 use Rattle.snp_model.specs.GuestWalk.{is_canonical, levels_of}
 use Rattle.run_laws.specs.HeldLocks.{AreItemLocks}
 use Rattle.snp_model.specs.InstructionStep.{adjust_move, page_lookup, smash_move, update_move, validate_move}
-use Rattle.run_laws.specs.KeptLocks.{KeepsLocks}
-use Rattle.snp_model.specs.Locks.{covers, locks_context, locks_frame, page_lock, range_lock, view_of}
+use Rattle.run_laws.specs.KeptLocks.{KeepsLocks, is_locked, recontexted, relocked}
+use Rattle.snp_model.specs.Locks.{context_holder_of, covers, holder_of, locks_context, locks_frame, page_lock, range_lock, view_of}
 use Rattle.snp_model.specs.Moves.{Arrival, Move, begin_move, is_running, lock_move, memory_move, need_move, quiet_move, table_move, walked_move}
 use Rattle.run_laws.specs.OpenAttempts.{IsAttempt, IsCommand, IsWalking}
 use Rattle.snp_model.specs.RmpUpdate.{is_bad_smash, is_bad_update, update_lock}
+use Rattle.snp_model.specs.Run.{IsDefined, state_after}
 use Rattle.snp_model.specs.Sealing.{Sealing}
+use Rattle.snp_model.specs.Sound.{IsSound}
 use Rattle.snp_model.specs.State.{ActorPart, Computed, Context, Contents, PageLock, Pages, Standing, State, IsUnfinished, View, nothing_taken, part_of}
-use Rattle.snp_model.specs.Step.{access_move, host_access, item_move, line_at, part_after}
+use Rattle.snp_model.specs.Step.{access_move, after, host_access, item_move, line_at, part_after}
 use Rattle.snp_model.specs.Touches.{Touched, command_touches, context_touched, frame_touched, instruction_touches, item_touches, lock_regions, locks_regions, need_touches, nothing_touched, page_touches, phase_touches, region_of, touches_frame, walk_touches, with_locks}
 use Rattle.snp_model.specs.Walking.{Processor, lookup_of, need_after}
+use Rattle.run_laws.proofs.ContextLaws.{context_holders_after, owns_context}
+use Rattle.run_laws.proofs.HolderLaws.{holders_after, owns_locks}
 use Rattle.run_laws.proofs.LockedItems.{no_outcome}
-use Rattle.run_laws.proofs.LockLaws.{first_none, page_region, small_covered}
+use Rattle.run_laws.proofs.LockLaws.{first_none, not_true, page_region, small_covered}
+use Rattle.run_laws.proofs.LockedRuns.{part_walking}
 use Rattle.run_laws.proofs.MoveLocality.{Includes, includes_itself, own_frame}
 use Rattle.run_laws.proofs.RunLaws.{after_part, unfinished_at}
+use Rattle.run_laws.proofs.SealedRuns.{run_order}
 use Rattle.run_laws.proofs.TestedLaws.{smash_passes, update_passes}
-use Rattle.run_theorems.specs.TouchedLocks.{LocksAreTouched, touched_by}
+use Rattle.run_theorems.specs.TouchedLocks.{HoldersStay, LocksAreTouched, touched_by}
 
 -- Locks and regions
 
@@ -411,8 +414,43 @@ locks_touched m a keeps walking unfinished =
       contexts_after = λ g locked. contexts_then (touched_by m a) part move move.outcome refl before inside g (subst (λ (p : ActorPart). locks_context g p ≡ true) becomes locked);
     }
 
--- so in every run
-pub run_locks_touched : (c : Scenario) (s : List ℕ) (actor : ℕ) → IsSound c → IsDefined c s → IsUnfinished (state_after c s) actor → LocksAreTouched (state_after c s) actor
-run_locks_touched c s actor sound defined unfinished =
+-- Who holds a lock
+
+-- what an actor doesn't hold isn't released with its locks
+released_stays : (actor : ℕ) (holder : Option ℕ) → (holder ≡ Some actor → ⊥) → released actor holder ≡ holder
+released_stays actor None apart = refl
+released_stays actor (Some holder) apart = let other : (holder ≡ actor → ⊥) = λ same. apart (ap (λ (n : ℕ). Some n) same) in grind (arith, nat_tests, other)
+
+relocked_beside : (actor : ℕ) (locks : List PageLock) (holder : ℕ → Option ℕ) (frame : ℕ) → list_any (covers frame) locks ≡ false → (holder frame ≡ Some actor → ⊥) → relocked actor locks holder frame ≡ holder frame
+relocked_beside actor locks holder frame none apart = ap (λ (b : Bool). cond b (Some actor) (released actor (holder frame))) none ∙ released_stays actor (holder frame) apart
+
+recontexted_beside : (actor : ℕ) (locked : Option ℕ) (holder : ℕ → Option ℕ) (guest : ℕ) → is_locked guest locked ≡ false → (holder guest ≡ Some actor → ⊥) → recontexted actor locked holder guest ≡ holder guest
+recontexted_beside actor locked holder guest none apart = ap (λ (b : Bool). cond b (Some actor) (released actor (holder guest))) none ∙ released_stays actor (holder guest) apart
+
+-- beside what its event touches an actor has locked nothing before it and after it, so there each lock keeps its holder
+pub holders_stay : (m : State) (a : ℕ) → KeepsLocks m → IsWalking m.frames (part_of m a) → IsUnfinished m a → HoldersStay m a
+holders_stay m a keeps walking unfinished =
+    let touched = locks_touched m a keeps walking unfinished in
+    let then = (part_of (after m a) a).standing in
+    record {
+      frames = λ f beside.
+          ap (λ (holder : ℕ → Option ℕ). holder f) (holders_after m a keeps walking unfinished.0)
+          ∙ relocked_beside a then.locks (holder_of m) f (not_true (list_any (covers f) then.locks) (λ locked. true≢false (sym (touched.frames_after f locked) ∙ beside)))
+          (λ own. true≢false (sym (touched.frames_before f ((owns_locks m a keeps unfinished.0).only f own)) ∙ beside));
+      contexts = λ g beside.
+          ap (λ (holder : ℕ → Option ℕ). holder g) (context_holders_after m a keeps walking unfinished.0)
+          ∙ recontexted_beside a then.context_lock (context_holder_of m) g (not_true (is_locked g then.context_lock) (λ locked. beside (touched.contexts_after g locked)))
+          (λ own. beside (touched.contexts_before g ((owns_context m a keeps unfinished.0).only g own)));
+    }
+
+-- So in every run
+
+pub run_touches : (c : Scenario) (s : List ℕ) (a : ℕ) → IsSound c → IsDefined c s → IsUnfinished (state_after c s) a → LocksAreTouched (state_after c s) a
+run_touches c s a sound defined unfinished =
     let order = run_order c s sound defined in
-    locks_touched (state_after c s) actor order.locks (part_walking (state_after c s) actor order.walking unfinished) unfinished
+    locks_touched (state_after c s) a order.locks (part_walking (state_after c s) a order.walking unfinished) unfinished
+
+pub run_holders_stay : (c : Scenario) (s : List ℕ) (a : ℕ) → IsSound c → IsDefined c s → IsUnfinished (state_after c s) a → HoldersStay (state_after c s) a
+run_holders_stay c s a sound defined unfinished =
+    let order = run_order c s sound defined in
+    holders_stay (state_after c s) a order.locks (part_walking (state_after c s) a order.walking unfinished) unfinished
