@@ -18,7 +18,7 @@ use Rattle.snp_model.specs.Moves.{Move, begin_move, lock_move, need_move, table_
 use Rattle.snp_model.specs.Step.{Stepped, access_move, host_access, stepped, idle_line, item_move, last_after, line_at, part_after, position_after, step_of, event_of, after}
 use Rattle.snp_model.specs.Run.{run_from, state_from, IsDefinedFrom}
 use Rattle.run_laws.proofs.RunLaws.{unfinished_at, unfinished_from}
-use Rattle.growing_runs.specs.Extending.{KeepsRun, extended, with_lines}
+use Rattle.growing_runs.specs.Extending.{Commutes, KeepsRun, extended, with_lines}
 
 -- a move looks at no script
 move_same : (lines : List Line) (frames : ℕ) (guests : List GuestSpec) (view : View) (part : ActorPart) (role : Role) (item : Item) → item_move frames guests view (extended lines part) role item ≡ item_move frames guests view part role item
@@ -115,12 +115,6 @@ step_same lines frames guests part view within =
     ∙ move_same lines frames guests view part part.role item in
     ap (stepped (extended lines part)) moves
     ∙ ap (λ (p : ActorPart). record (stepped part move) { part = p }) (part_after_same lines part move move.outcome within)
-
--- one event of an actor that isn't finished: it is the same where a script goes on, and so is what it leaves
-pub record Commutes (actor : ℕ) (lines : List Line) (m : State) (other : ℕ) : Type 0 where
-  pub unfinished : IsUnfinished (with_lines actor lines m) other
-  pub event : event_of (with_lines actor lines m) other ≡ event_of m other
-  pub after_is : after (with_lines actor lines m) other ≡ with_lines actor lines (after m other)
 
 with_parts : State → Stepped → List ActorPart → State
 with_parts m step parts = record m { contents = step.contents; actors = parts }

@@ -13,14 +13,17 @@ ghost use Rattle.snp_model.specs.Premises.{IsDisciplinedFrom};
 ghost use Rattle.snp_model.specs.Run.{IsDefinedFrom};
 ghost use Rattle.snp_model.specs.State.{ActorPart, State, View, IsUnfinished, part_of};
 ghost use Rattle.snp_model.specs.Step.{item_move};
-ghost use Rattle.growing_runs.specs.Extending.{KeepsRun, actor_of, appended, with_lines, with_script};
+ghost use Rattle.growing_runs.specs.Extending.{Commutes, KeepsRun, actor_of, appended, with_lines, with_script};
 ghost use Rattle.growing_runs.specs.Plain.{AreAllPlain, IsPlain, PassesNone};
 
 /// A script may go on while it is run. Where an actor gets further lines, a schedule that named unfinished actors alone makes the
 /// same events as before, and leaves the same state but for these lines; so a run of a scenario is a run of the scenario in
 /// which the script goes on, and an item that is appended can be answered by what the run has shown so far.
 pub fn extended_scripts()
-    // From any state on.
+    // One event of an actor that isn't finished, be it the one that gets the lines or another, from any state.
+    ensures step { (m : State) (actor other : ℕ) (lines : List Line) → IsUnfinished m other → Commutes actor lines m other }
+
+    // A schedule, from any state on.
     ensures from { (m : State) (actor : ℕ) (lines : List Line) (schedule : List ℕ) → IsDefinedFrom m schedule → KeepsRun actor lines m schedule }
 
     // A run of a scenario, with the state at its end.

@@ -3,29 +3,45 @@ ghost use Rattle.growing_runs.specs.Duels.{counted, has_answer, seen, sight_of, 
 
 use snp_model::{Deed, Event, Outcome};
 
-/// What one who answers sees.
+/// What one of the two of a duel sees when it is asked for its next item.
 #[derive(Clone, Copy, Debug, PartialEq, Eq)]
 pub struct Sight {
+    /// How many items it has answered with so far.
     pub round: u32,
+    /// Whether it is the actor of the firmware, and not the processor of the hypervisor.
     pub firmware: bool,
+    /// How many frames of 4 KB memory has.
     pub frames: u32,
+    /// The guest page number of the last access that any guest's processor came to; 0 before the first.
     pub gpn: u64,
+    /// The frame of that access, below `frames`; 0 before the first.
     pub frame: u32,
+    /// The outcome of its own last attempt, if it has made one.
     pub last: Option<Outcome>,
 }
 
 /// How far a duel has come.
 #[derive(Clone, Copy, Debug, PartialEq, Eq)]
 pub struct Duel {
+    /// How many frames of 4 KB memory has.
     pub frames: u32,
+    /// The number of the processor of the hypervisor, from 1.
     pub host: u32,
+    /// The number of the actor of the firmware, from 1.
     pub firmware: u32,
+    /// How many items each of the two may answer with.
     pub rounds: u32,
+    /// How many the processor of the hypervisor has answered with.
     pub by_host: u32,
+    /// How many the actor of the firmware has answered with.
     pub by_firmware: u32,
+    /// The guest page number of the last access; 0 before the first.
     pub gpn: u64,
+    /// The frame of that access; 0 before the first.
     pub frame: u32,
+    /// The outcome of the last attempt of the processor of the hypervisor.
     pub last_host: Option<Outcome>,
+    /// The outcome of the last attempt of the actor of the firmware.
     pub last_firmware: Option<Outcome>,
 }
 
