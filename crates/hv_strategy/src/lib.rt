@@ -4,6 +4,8 @@
 mod driver;
 mod dueling;
 mod ring;
+#[cfg(test)]
+mod tests;
 
 pub use driver::{Asks, drive};
 pub use dueling::{Acts, Duelists, Strategy, duel};
