@@ -249,7 +249,7 @@ REFUSED = [
     (['explain', '-', 'tests/cases/smallest.out'], 'snp 1\nregions 1', 'standard input:2: the last line has no line feed'),
     (['explain', '-', 'tests/cases/smallest.out'], BASE + 'jump 1\nend\n',
      'standard input:12: `jump` is no item of a guest\'s processor'),
-    (['explain', '-', 'tests/cases/smallest.out'], BASE, 'standard input:12: the text ends without `end`'),
+    (['explain', '-', 'tests/cases/smallest.out'], BASE, 'standard input:12: the text ends without its line `end`'),
     (['explain', '-', 'tests/cases/smallest.out'], BASE + 'order 1*x\nend\n',
      'standard input:12: `1*x` is neither an actor nor an actor with its count'),
     (['brief', '-'], 'snp-report 1\n0 1 0.0 lock 9 rc 3 by\n', 'standard input:2: `rc 3 by` should be a status'),
@@ -328,12 +328,15 @@ actor 1 cpu 1 vmpl 0 npt 1 flat
 load 0x10
 actor 2 host
 # store leaf(1,0x1) entry(decoy)
+#   entry(decoy) sets bits 0 (present), 1 (writable) and 2 (user)
 store 0x4008 0x64007
 # load addr(decoy,2)
 load 0x64010
 # store addr(9,0) private(4)
+#   private(4) sets bits 0 (present), 1 (writable) and 51 (private)
 store 0x9000 0x8000000004003
 # store addr(9,0) shared(4)
+#   shared(4) sets bits 0 (present) and 1 (writable)
 store 0x9000 0x4003
 order 1*6 2
 end
@@ -382,6 +385,7 @@ rmpupdate 512 2m 1 7 0x200 0 retry 1
 # rmpupdate big 2m 1 0x7 512 1
 rmpupdate 512 2m 1 0x7 512 1
 # store leaf(1,0x203) large(big)
+#   large(big) sets bits 0 (present), 1 (writable), 2 (user) and 7 (a page of 2 MB)
 store 0x3008 0x200087
 end
 ''' % KEY

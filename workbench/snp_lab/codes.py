@@ -2,7 +2,7 @@
 from __future__ import annotations
 
 from dataclasses import dataclass
-from typing import Dict, List, Optional, Tuple
+from typing import Optional
 
 from .texts import Complaint, number_of
 
@@ -21,11 +21,11 @@ class Row:
     condition: str
 
     def __str__(self) -> str:
-        number = ', row %d' % self.number if self.number is not None else ','
-        return '%s%s "%s" (docs/MODEL.md, "%s")' % (self.table, number, self.condition, self.section)
+        number = f', row {self.number}' if self.number is not None else ','
+        return f'{self.table}{number} "{self.condition}" (docs/MODEL.md, "{self.section}")'
 
 
-def rows(section: str, table: str, *conditions: str) -> List[Row]:
+def rows(section: str, table: str, *conditions: str) -> list[Row]:
     return [Row(section, table, k + 1, condition) for k, condition in enumerate(conditions)]
 
 
@@ -119,7 +119,7 @@ NESTED_BITS = [
 ]
 KNOWN_BITS = sum(bit.value for bit in NESTED_BITS)
 
-INSTRUCTION_STATUSES: Dict[int, Tuple[str, str]] = {
+INSTRUCTION_STATUSES: dict[int, tuple[str, str]] = {
     0: ('SUCCESS', 'it was done'),
     1: ('FAIL_INPUT', 'an operand is none that the instruction takes'),
     2: ('FAIL_PERMISSION', 'the page or the processor doesn\'t have the permission'),
@@ -127,7 +127,7 @@ INSTRUCTION_STATUSES: Dict[int, Tuple[str, str]] = {
     4: ('FAIL_OVERLAP', 'the range meets a page of another size'),
     6: ('FAIL_SIZEMISMATCH', 'the page is of another size than was asked'),
 }
-FIRMWARE_STATUSES: Dict[int, Tuple[str, str]] = {
+FIRMWARE_STATUSES: dict[int, tuple[str, str]] = {
     0x00: ('SUCCESS', 'the command was done'),
     0x02: ('INVALID_GUEST_STATE', 'the guest\'s state or its binding isn\'t as the command asks'),
     0x09: ('INVALID_ADDRESS', 'a frame isn\'t in memory'),
@@ -141,7 +141,7 @@ FIRMWARE_STATUSES: Dict[int, Tuple[str, str]] = {
     0x1D: ('AEAD_OFLOW', 'the guest\'s counter is at its end'),
     0x100: ('PAGE_IN_USE', 'another actor holds a lock of the guest\'s context or of a page'),
 }
-EXIT_STATUSES: Dict[int, str] = {
+EXIT_STATUSES: dict[int, str] = {
     0: 'the whole report was written',
     1: 'the runtime doesn\'t give the arguments, or has no room for the output\'s buffer',
     2: 'the words after the program\'s name are none of `replay`, `run` and `measure`',
@@ -152,7 +152,7 @@ EXIT_STATUSES: Dict[int, str] = {
     7: 'there wasn\'t memory enough',
     8: 'an entry of the schedule names an actor that is missing or finished',
 }
-REASONS: Dict[str, str] = {
+REASONS: dict[str, str] = {
     'cut': 'the last line has no line feed',
     'form': 'the line\'s words fit no line that may stand there, or it has a byte outside of printable ASCII',
     'number': 'a word that should be a number is none',
@@ -168,14 +168,14 @@ REASONS: Dict[str, str] = {
 def nested_words(code: int) -> str:
     """`nested page fault: present, user, RMP, final translation, private`."""
     parts = [bit.words if code & bit.value else bit.clear for bit in NESTED_BITS]
-    odd = ['bit %d, which no fault of the model sets' % k for k in range(64) if code >> k & 1 and not KNOWN_BITS >> k & 1]
+    odd = [f'bit {k}, which no fault of the model sets' for k in range(64) if code >> k & 1 and not KNOWN_BITS >> k & 1]
     return 'nested page fault: ' + ', '.join([part for part in parts if part] + odd)
 
 
 def guest_fault_words(code: int) -> str:
     """The words of a page fault of the guest's own tables."""
     parts = ['present' if code & 1 else 'not present'] + (['write'] if code & 2 else [])
-    odd = ['bit %d, which no fault of the model sets' % k for k in range(2, 64) if code >> k & 1]
+    odd = [f'bit {k}, which no fault of the model sets' for k in range(2, 64) if code >> k & 1]
     return 'page fault of the guest\'s own tables: ' + ', '.join(parts + odd)
 
 
@@ -187,29 +187,28 @@ def host_fault_words(code: int) -> str:
 
 def status_words(status: int) -> str:
     name, meaning = INSTRUCTION_STATUSES.get(status, ('', 'no status that the model gives'))
-    return ('%s: %s' % (name, meaning)) if name else meaning
+    return (f'{name}: {meaning}') if name else meaning
 
 
 def firmware_words(status: int) -> str:
     name, meaning = FIRMWARE_STATUSES.get(status, ('', 'no status that the model gives'))
-    return ('firmware: %s: %s' % (name, meaning)) if name else 'firmware: ' + meaning
+    return (f'firmware: {name}: {meaning}') if name else 'firmware: ' + meaning
 
 
 def refusal_words(line: str) -> str:
     """An error line of the program in words."""
     words = line.split(' ')
     if words[:2] == ['error', 'scenario'] and len(words) == 4:
-        return 'line %s: %s' % (words[2], REASONS.get(words[3], 'a reason that docs/FORMATS.md doesn\'t have'))
+        return f"line {words[2]}: {REASONS.get(words[3], 'a reason that docs/FORMATS.md does not have')}"
     if words[:2] == ['error', 'limit'] and len(words) == 5:
-        return 'it would have %s %s, and the most is %s' % (words[3], words[2], words[4])
+        return f'it would have {words[3]} {words[2]}, and the most is {words[4]}'
     if words[:2] == ['error', 'schedule'] and len(words) == 4:
-        return ('entry %s of the schedule, counted from 0, names actor %s, which is missing or finished there'
-                % (words[2], words[3]))
+        return (f'entry {words[2]} of the schedule, counted from 0, names actor {words[3]}, which is missing or finished there')
     plain = {'error words': EXIT_STATUSES[2], 'error read': EXIT_STATUSES[5], 'error memory': EXIT_STATUSES[7]}
     return plain.get(line, 'no error line of the program')
 
 
-def outcome_words(outcome: Tuple[str, ...], kind: str) -> str:
+def outcome_words(outcome: tuple[str, ...], kind: str) -> str:
     """An outcome in words; the kind is that of the deed that it stands behind."""
     name = outcome[0]
     value = number_of(outcome[1]) if len(outcome) > 1 else None
@@ -222,32 +221,32 @@ def outcome_words(outcome: Tuple[str, ...], kind: str) -> str:
     if name == 'rc':
         return instruction_words(outcome)
     if name == 'fw':
-        held = '; actor %s holds it' % outcome[3] if outcome[2:3] == ('by',) and len(outcome) > 3 else ''
+        held = f'; actor {outcome[3]} holds it' if outcome[2:3] == ('by',) and len(outcome) > 3 else ''
         return firmware_words(value or 0) + held
     return {'gp': 'general protection fault', 'offline': 'the guest isn\'t running', 'store': 'the store was made',
             'opaque': 'the word stays hidden: the frame is assigned',
             'next': 'the test failed, or there was nothing to test: the next item follows',
-            'load': 'the load gave %s' % ' '.join(outcome[1:]),
-            'swap': 'the word before the write was %s' % ' '.join(outcome[1:]),
+            'load': f"the load gave {' '.join(outcome[1:])}",
+            'swap': f"the word before the write was {' '.join(outcome[1:])}",
             'cas': cas_words(outcome),
-            'skipped': 'the test held: %s items are passed over' % ' '.join(outcome[1:])}[name]
+            'skipped': f"the test held: {' '.join(outcome[1:])} items are passed over"}[name]
 
 
-def cas_words(outcome: Tuple[str, ...]) -> str:
+def cas_words(outcome: tuple[str, ...]) -> str:
     if outcome[2:3] == ('yes',):
-        return 'the compare found %s, as it expected, and wrote' % outcome[1]
-    return 'the compare found %s, which it didn\'t expect, and wrote nothing' % ' '.join(outcome[1:2])
+        return f'the compare found {outcome[1]}, as it expected, and wrote'
+    return f"the compare found {' '.join(outcome[1:2])}, which it didn't expect, and wrote nothing"
 
 
-def instruction_words(outcome: Tuple[str, ...]) -> str:
+def instruction_words(outcome: tuple[str, ...]) -> str:
     words = 'status ' + status_words(number_of(outcome[1]) or 0)
     if outcome[2:3] == ('cf',):
         return words + ('; carry flag 1: Validated was as asked, and nothing changed' if outcome[3:] == ('1',)
                         else '; carry flag 0: Validated was changed')
-    return words + ('; actor %s holds it' % outcome[3] if outcome[2:3] == ('by',) and len(outcome) > 3 else '')
+    return words + (f'; actor {outcome[3]} holds it' if outcome[2:3] == ('by',) and len(outcome) > 3 else '')
 
 
-def nested_causes(code: int) -> List[str]:
+def nested_causes(code: int) -> list[str]:
     """The rows that can give a nested fault with this code."""
     table = 'guest table' if code >> 33 & 1 else ''
     if code >> 31 & 1 == 0:
@@ -264,7 +263,7 @@ def nested_causes(code: int) -> List[str]:
     return [str(row) for row in PRIVATE[:4]] + validate
 
 
-def decided(causes: List[str]) -> List[str]:
+def decided(causes: list[str]) -> list[str]:
     """The lines that name what decided, or what may have."""
     if not causes:
         return []
@@ -273,21 +272,21 @@ def decided(causes: List[str]) -> List[str]:
     return ['  decided by: one of these'] + ['    ' + cause for cause in causes]
 
 
-def nested_lines(code: int) -> List[str]:
+def nested_lines(code: int) -> list[str]:
     """One nested fault code, taken apart."""
-    lines = ['npf 0x%x: %s' % (code, nested_words(code)), '  goes to: ' + HYPERVISOR]
+    lines = [f'npf 0x{code:x}: {nested_words(code)}', '  goes to: ' + HYPERVISOR]
     for bit in NESTED_BITS:
         if code & bit.value:
-            label = 'bit %d%s' % (bit.place, ' ' + bit.name if bit.name else '')
-            lines.append('  %-14s%-14s%s' % ('0x%x' % bit.value, label, bit.meaning))
+            label = f"bit {bit.place}{' ' + bit.name if bit.name else ''}"
+            lines.append(f'  {hex(bit.value):14}{label:14}{bit.meaning}')
     if code & ~KNOWN_BITS or not code & 4 or bool(code >> 32 & 1) == bool(code >> 33 & 1):
         return lines + ['  no fault of the model has this code: it sets bit 2, one of bits 32 and 33, and no others than these']
     return lines + decided(nested_causes(code))
 
 
-def kinds_of(code: int) -> List[Tuple[str, List[str]]]:
+def kinds_of(code: int) -> list[tuple[str, list[str]]]:
     """What a bare number may be, with its lines: each reading that the model has."""
-    readings: List[Tuple[str, List[str]]] = []
+    readings: list[tuple[str, list[str]]] = []
     if code & 4 and code >> 32:
         return [('npf', nested_lines(code))]
     if code == 0x404:
@@ -303,48 +302,48 @@ def kinds_of(code: int) -> List[Tuple[str, List[str]]]:
     return readings or [('npf', nested_lines(code))]
 
 
-def coded(kind: str, code: int) -> List[str]:
+def coded(kind: str, code: int) -> list[str]:
     """The lines of a code of a named kind."""
     if kind == 'npf':
         return nested_lines(code)
     if kind == 'vc':
-        return ['vc 0x%x: %s' % (code, outcome_words(('vc', '0x%x' % code), 'data')), '  goes to: ' + GUEST,
+        return [f"vc 0x{code:x}: {outcome_words(('vc', hex(code)), 'data')}", '  goes to: ' + GUEST,
                 '  decided by: ' + str(PRIVATE[4])]
     if kind == 'pf' and code >> 31:
-        return ['pf 0x%x behind `host`: %s' % (code, host_fault_words(code)), '  goes to: ' + OWN_FAULT, '  decided by: ' + str(HOST[0])]
+        return [f'pf 0x{code:x} behind `host`: {host_fault_words(code)}', '  goes to: ' + OWN_FAULT, '  decided by: ' + str(HOST[0])]
     if kind == 'pf':
         row = GUEST_WRITE if code & 1 else GUEST_NOT_PRESENT
-        return ['pf 0x%x behind `gpt`: %s' % (code, guest_fault_words(code)), '  goes to: ' + GUEST, '  decided by: ' + str(row)]
+        return [f'pf 0x{code:x} behind `gpt`: {guest_fault_words(code)}', '  goes to: ' + GUEST, '  decided by: ' + str(row)]
     if kind == 'rc':
-        return ['rc %d: %s' % (code, status_words(code))] + decided([str(row) for row in STATUS_ROWS.get(code, [])])
+        return [f'rc {code}: {status_words(code)}'] + decided([str(row) for row in STATUS_ROWS.get(code, [])])
     if kind == 'fw':
-        return ['fw 0x%x: %s' % (code, firmware_words(code))] + decided([str(row) for row in FIRMWARE_ROWS.get(code, [])])
+        return [f'fw 0x{code:x}: {firmware_words(code)}'] + decided([str(row) for row in FIRMWARE_ROWS.get(code, [])])
     if kind == 'status':
-        return ['exit status %d: %s' % (code, EXIT_STATUSES.get(code, 'none that the program ends with'))]
-    raise Complaint('`%s` is no kind of code: npf, pf, vc, rc, fw and status are' % kind)
+        return [f"exit status {code}: {EXIT_STATUSES.get(code, 'none that the program ends with')}"]
+    raise Complaint(f'`{kind}` is no kind of code: npf, pf, vc, rc, fw and status are')
 
 
-def code_lines(words: List[str]) -> List[str]:
+def code_lines(words: list[str]) -> list[str]:
     """What `explain` says of codes on its command line: `0x580000005`, `npf 0x..`, `rc 3`, `fw 0x1a`, `error ..`."""
     words = [part for word in words for part in word.split()]
     if words and words[0] == 'error':
-        return ['%s: %s' % (' '.join(words), refusal_words(' '.join(words)))]
-    lines: List[str] = []
+        return [f"{' '.join(words)}: {refusal_words(' '.join(words))}"]
+    lines: list[str] = []
     kind: Optional[str] = None
     for word in words:
         value = number_of(word.lower())
         if value is None and (kind is not None or word == 'cf'):
-            raise Complaint('`%s` should be a number, as 0x580000005' % word)
+            raise Complaint(f'`{word}` should be a number, as 0x580000005')
         if value is None:
             kind = word
             if kind in ('gp', 'offline', 'opaque'):
-                lines, kind = lines + ['%s: %s' % (word, outcome_words((word,), 'data'))], None
+                lines, kind = lines + [f"{word}: {outcome_words((word,), 'data')}"], None
             continue
         if kind == 'by':
-            lines.append('  held by: actor %d, in the order of the scenario\'s `actor` lines' % value)
+            lines.append(f"  held by: actor {value}, in the order of the scenario's `actor` lines")
         else:
             lines += coded(kind, value) if kind else [text for _, reading in kinds_of(value) for text in reading]
         kind = None
     if kind is not None:
-        raise Complaint('`%s` is no code; give a number, or a kind and a number, as `rc 3`' % kind)
+        raise Complaint(f'`{kind}` is no code; give a number, or a kind and a number, as `rc 3`')
     return lines

@@ -3,8 +3,10 @@ from __future__ import annotations
 
 import argparse
 import os
+import shlex
 import sys
-from typing import TYPE_CHECKING, Callable, Dict, List, NoReturn, Optional, Tuple
+from collections.abc import Callable
+from typing import TYPE_CHECKING, NoReturn, Optional
 
 from .texts import Complaint, read_text, shown
 
@@ -27,7 +29,7 @@ class Parser(argparse.ArgumentParser):
     """A parser whose complaints look like all others."""
 
     def error(self, message: str) -> NoReturn:
-        raise Complaint('%s; `%s --help` shows how' % (message, self.prog))
+        raise Complaint(f'{message}; `{self.prog} --help` shows how')
 
 
 def parser() -> Parser:
@@ -45,7 +47,7 @@ def add_command(commands: 'argparse._SubParsersAction[Parser]', name: str, summa
     return made
 
 
-def one_standard_input(names: List[str]) -> None:
+def one_standard_input(names: list[str]) -> None:
     if names.count('-') > 1:
         raise Complaint('`-` stands twice: standard input can be read once')
 
@@ -77,7 +79,7 @@ def add_explain(commands: 'argparse._SubParsersAction[Parser]', name: str) -> No
 def run_explain(options: argparse.Namespace) -> int:
     from .codes import code_lines
     from .texts import number_of
-    words: List[str] = options.words
+    words: list[str] = options.words
     kinds = ('npf', 'pf', 'vc', 'rc', 'fw', 'status', 'gp', 'offline', 'opaque')
     first = words[0].split(' ')[0]
     if not os.path.exists(words[0]) and (number_of(first.lower()) is not None or first in kinds + ('error',)):
@@ -96,7 +98,7 @@ def explain_run(options: argparse.Namespace) -> int:
     return 0
 
 
-def pair(names: List[str], program: Optional[str]) -> 'Tuple[Scenario, Report]':
+def pair(names: list[str], program: Optional[str]) -> 'tuple[Scenario, Report]':
     """A scenario and its report, which the program is asked for where it isn't given."""
     from .program import program_from, report_or_fail
     from .report import parse as parse_report
@@ -142,12 +144,22 @@ where all is as expected, 1 where something isn't, and 2 where nothing could be 
     # expect guest 1 running -                a guest's line
     # expect status 8                         the exit status, 0 where none is said
     # expect error schedule 6 1               the error line of a refusal
+    # expect never ... load 0x6               no order of the scripts' events has such a line in its report
+    # expect possible * 1 1.0 ... npf *       some order has one
+    # expect always ... host 8:2 load 0x0     each order has one
+
+FILE may be a folder, for all scenarios `*.snp` below it. A file without any such line is told, and isn't passed. The last three ask all
+interleavings, as `explore` does, and say whether all were tried, and give a schedule; `# before 2.1 3.0` lets item 0 of actor 3 begin when item
+1 of actor 2 is done.
 """
 
 
 def add_test(commands: 'argparse._SubParsersAction[Parser]', name: str) -> None:
     made = add_command(commands, name, 'scenarios that say what they must report, run and compared', TEST, run_test)
     made.add_argument('files', nargs='+', metavar='FILE')
+    made.add_argument('--junit', metavar='FILE', help='writes the results as JUnit XML too')
+    made.add_argument('--most', type=int, default=20000, metavar='N',
+                      help='the most runs that are made for the lines of a file that all orders answer (20000)')
     made.add_argument('--program', metavar='PATH', help=PROGRAM_HELP)
 
 
@@ -155,7 +167,7 @@ def run_test(options: argparse.Namespace) -> int:
     from .expect import run_cases
     from .program import program_from
     one_standard_input(options.files)
-    return run_cases(options.files, lambda: program_from(options.program))
+    return run_cases(options.files, lambda: program_from(options.program), options.junit, options.most)
 
 
 # write
@@ -170,9 +182,13 @@ WRITE = """Makes a plain scenario of a short one, which stands in the comments o
     guest 1 opened asid 1                 counter 0 and a key of zeros
     page 64..71 of 1 at 0x0               `4k valid 0 0 0`, for each of the frames
     page big of 1 at 0x200 2m             `valid 0 0 0`, a page of 2 MB
-    store leaf(1,0x0) entry(decoy)        leaf(ROOT,PAGE): address of the entry that maps a page; entry(FRAME): an entry that
-                                          leads there; large(FRAME): one of 2 MB; addr(FRAME,INDEX): a word's address;
-                                          private(PAGE), shared(PAGE): entries of a guest's own tables
+    store leaf(1,0x0) entry(decoy)        leaf(ROOT,PAGE): address of the entry that maps a page; addr(FRAME,INDEX): a word's
+                                          address; entry(FRAME): an entry that leads there, with bits 0 present, 1 writable and
+                                          2 user (or entry(FRAME,BITS)); large(FRAME): one of 2 MB, bit 7 too; shared(PAGE): an
+                                          entry of a guest's own tables, bits 0 present and 1 writable; private(PAGE): bit 51
+                                          (private) too. The comment above the plain line tells the bits again
+    load 0x10 tries 3                     a load, store, swap or xor that is made again where a fault ends it, up to 3 times in all:
+                                          copies with `skip N if ok` between, which a skip that passes over them has to count
     rmpupdate decoy of 1 at 0x3           the hypervisor gives the frame to guest 1; `2m`, `immutable` and `retry N` may follow
     rmpupdate context firmware            the frame becomes the firmware's, as one for a guest's context
     launch_update 1 first..second         each frame is launched as a NORMAL page; or with the type, flag and permissions behind it
@@ -208,9 +224,11 @@ item can have, with one schedule for each. The scenario's own `order` lines are 
     snp-lab explore --joint SCENARIO                                 also the outcomes of whole runs
     snp-lab explore --until '* 1 1.0 data ... npf *' SCENARIO        a schedule whose report has a line like it
 
-Events that touch no word, RMP entry or lock in common give the same outcomes in any order, so of interleavings that differ by such
-events alone one is run; --full runs each. Ctrl-C ends a search with what was found. With --until the exit status is 1 where
-no run has such a line. Patterns are those of `test`; one that begins with `*` or `...` leaves the event's number open, and
+A comment `# before 2.1 3.0` in the scenario lets item 0 of actor 3 begin when item 1 of actor 2 is done.
+
+Events that touch no word, RMP entry or lock in common give the same outcomes in any order, and what comes behind equal states is the
+same, so of interleavings that differ by no more one is run; --full runs each. Ctrl-C ends a search with what was found. With --until
+the exit status is 1 where no run has such a line. Patterns are those of `test`; one that begins with `*` or `...` leaves the event's number open, and
 any other one makes the search full.
 """
 
@@ -237,7 +255,7 @@ def run_explore(options: argparse.Namespace) -> int:
     from .program import program_from
     for name in ('most', 'random', 'after'):
         if getattr(options, name) < 0:
-            raise Complaint('--%s should be 0 or more' % name)
+            raise Complaint(f'--{name} should be 0 or more')
     text = read_text(options.scenario)
     program = program_from(options.program)
     if program.is_unproved:
@@ -248,14 +266,69 @@ def run_explore(options: argparse.Namespace) -> int:
     return explore(program, text, shown(options.scenario), made)
 
 
+# drill
+
+DRILL = """Prints the scenario of a drill's number with the order that the drill picks, as a text that `snp replay` takes. The report of
+that text is compared with the digest that `snp drill N` prints.
+
+    snp-lab drill 7 > drill7.snp
+"""
+
+
+def add_drill(commands: argparse._SubParsersAction[Parser], name: str) -> None:
+    made = add_command(commands, name, 'the scenario of a drill with the order that it picks', DRILL, run_drill)
+    made.add_argument('number', metavar='N')
+    made.add_argument('--program', metavar='PATH', help=PROGRAM_HELP)
+
+
+def run_drill(options: argparse.Namespace) -> int:
+    from .drill import drilled
+    from .program import program_from
+    from .texts import decimal_of
+    number = decimal_of(options.number)
+    if number is None or number >= 1 << 64:
+        raise Complaint(f'`{options.number}` should be a number, decimal and below 2^64')
+    sys.stdout.write(drilled(program_from(options.program), number))
+    return 0
+
+
+# shrink
+
+SHRINK = """Prints the smallest scenario and order found whose report still has a line like a pattern, or that still ends with a status.
+Turns, items, actors, pages, words, retries and memory are left out in turn, until nothing more can go by itself. Patterns are those of
+`test`; `*` for the numbers of event and item lets more go.
+
+    snp-lab shrink SCENARIO '* 1 *.* data ... npf *'
+    snp-lab shrink SCENARIO 'status 8'
+"""
+
+
+def add_shrink(commands: argparse._SubParsersAction[Parser], name: str) -> None:
+    made = add_command(commands, name, 'the smallest scenario found that still shows a line or a status', SHRINK, run_shrink)
+    made.add_argument('scenario', metavar='SCENARIO')
+    made.add_argument('pattern', metavar='PATTERN')
+    made.add_argument('--program', metavar='PATH', help=PROGRAM_HELP)
+
+
+def run_shrink(options: argparse.Namespace) -> int:
+    from .program import program_from
+    from .shrink import shrunk
+    if not options.pattern.split():
+        raise Complaint('a pattern is of a report line, as `* 1 *.* data ... npf *`, or `status N`')
+    words = f'snp-lab shrink {shlex.quote(options.scenario)} {shlex.quote(options.pattern)}'
+    sys.stdout.write(shrunk(program_from(options.program), read_text(options.scenario), shown(options.scenario), options.pattern, words))
+    return 0
+
+
 # view
 
 VIEW = """Prints a page of HTML that shows a report: a column for each actor, time downwards. It is one file and asks no network.
 
     snp-lab view SCENARIO REPORT > page.html
 
-An attempt is one block, a lock a bar, and faults are marked. A click, or the arrow keys, shows an event with its words and its
-explanation. REPORT may be left out where the scenario's own `order` lines are to be replayed.
+An attempt is one line that unfolds, and faults are marked. A click, or the arrow keys, shows an event with its words and its
+explanation, and the RMP entries that it finds; a lane beside shows a frame's entry over time. REPORT may be left out where the
+scenario's own `order` lines are to be replayed.
 """
 
 
@@ -273,13 +346,14 @@ def run_view(options: argparse.Namespace) -> int:
     return 0
 
 
-COMMANDS: Dict[str, Callable[['argparse._SubParsersAction[Parser]', str], None]] = {
-    'explain': add_explain, 'test': add_test, 'write': add_write, 'explore': add_explore, 'view': add_view,
+COMMANDS: dict[str, Callable[['argparse._SubParsersAction[Parser]', str], None]] = {
+    'explain': add_explain, 'test': add_test, 'write': add_write, 'explore': add_explore, 'drill': add_drill,
+    'shrink': add_shrink, 'view': add_view,
     'brief': add_brief,
 }
 
 
-def main(arguments: List[str]) -> int:
+def main(arguments: list[str]) -> int:
     """Runs a command; whatever goes wrong is told in one line on standard error."""
     try:
         options = parser().parse_args(arguments)
@@ -290,7 +364,7 @@ def main(arguments: List[str]) -> int:
         sys.stdout.flush()
         return status
     except Complaint as complaint:
-        print('snp-lab: %s' % complaint, file=sys.stderr)
+        print(f'snp-lab: {complaint}', file=sys.stderr)
         return COMPLAINED
     except BrokenPipeError:
         os.dup2(os.open(os.devnull, os.O_WRONLY), 1)
@@ -301,6 +375,11 @@ def main(arguments: List[str]) -> int:
     except Exception as fault:  # a mistake of this program, which its user shouldn't meet as a trace
         if os.environ.get('SNP_LAB_TRACE'):
             raise
-        print('snp-lab: a mistake in snp-lab itself (%s: %s); SNP_LAB_TRACE=1 shows where' % (type(fault).__name__, fault),
+        print(f'snp-lab: a mistake in snp-lab itself ({type(fault).__name__}: {fault}); SNP_LAB_TRACE=1 shows where',
               file=sys.stderr)
         return COMPLAINED
+
+
+def run() -> None:
+    """The entry point of an installed `snp-lab`."""
+    sys.exit(main(sys.argv[1:]))

@@ -6,7 +6,8 @@ the commands that seal and open pages do beyond that is in `seals`.
 from __future__ import annotations
 
 from dataclasses import dataclass
-from typing import Dict, List, Optional, Tuple
+from collections.abc import Callable
+from typing import Optional
 
 from . import codes, seals
 from .codes import Row
@@ -25,14 +26,14 @@ TYPES = {1: 'NORMAL', 3: 'ZERO', 4: 'UNMEASURED'}
 class Asked:
     """What a command asks: the states of its guest, where it names one, and whether it is bound; for each of its pages, in the
     order of their locks, the states, and whether it must be the guest's; and whether a compute comes before the commit."""
-    states: Tuple[str, ...] = ()
+    states: tuple[str, ...] = ()
     bound: Optional[bool] = None
-    pages: Tuple[Tuple[Tuple[str, ...], bool], ...] = ()
+    pages: tuple[tuple[tuple[str, ...], bool], ...] = ()
     computes: bool = False
 
 
 RUNNING, METADATA = ('running',), (('Metadata',), False)
-COMMANDS: Dict[str, Asked] = {
+COMMANDS: dict[str, Asked] = {
     'gctx_create': Asked(('absent',), None, ((('Firmware',), False),)),
     'activate': Asked(('init', 'launching'), False),
     'launch_start': Asked(('init',)),
@@ -58,47 +59,47 @@ class Refusal:
     because: str
 
 
-def frames_of(item: Item) -> List[int]:
+def frames_of(item: Item) -> list[int]:
     """The frames of a command in the order of their locks."""
     return [item.operands[place - 1] for place in FRAMES_OF.get(item.word, ())]
 
 
-def deeds_of(item: Item) -> List[str]:
+def deeds_of(item: Item) -> list[str]:
     """The locks of a command, and its compute, in their order, without the commit."""
     asked = COMMANDS[item.word]
-    locks = ['lockg %d' % item.operands[0]] if asked.states else []
-    return locks + ['lock %d' % frame for frame in frames_of(item)] + ['compute'] * asked.computes
+    locks = [f'lockg {item.operands[0]}'] if asked.states else []
+    return locks + [f'lock {frame}' for frame in frames_of(item)] + ['compute'] * asked.computes
 
 
 def guest_words(watch: Watch, guest: int) -> str:
     bound = 'bound to its ASID' if watch.bound.get(guest) else 'not bound to its ASID'
-    return 'guest %d is %s, and %s' % (guest, watch.states.get(guest, '?'), bound)
+    return f"guest {guest} is {watch.states.get(guest, '?')}, and {bound}"
 
 
 def asked_words(item: Item) -> str:
     """What a command asks of its guest."""
     asked = COMMANDS[item.word]
     bound = {None: '', True: ' and bound', False: ' and not bound'}[asked.bound]
-    return '`%s` asks for one that is %s%s' % (item.word, ' or '.join(asked.states), bound)
+    return f"`{item.word}` asks for one that is {' or '.join(asked.states)}{bound}"
 
 
 def context_refusal(watch: Watch, item: Item) -> Optional[Refusal]:
     """The first row that refuses the lock of a context; none where it is taken."""
     guest, frames, asked = item.operands[0], frames_of(item), COMMANDS[item.word]
     if guest not in watch.scenario.guests:
-        return Refusal('fw 0x16', codes.CONTEXT[0], 'guest %d isn\'t declared' % guest)
+        return Refusal('fw 0x16', codes.CONTEXT[0], f"guest {guest} isn't declared")
     twice = next((frame for k, frame in enumerate(frames) if frame in frames[:k]), None)
     if twice is not None:
-        return Refusal('fw 0x16', codes.CONTEXT[1], 'frame %d stands twice' % twice)
+        return Refusal('fw 0x16', codes.CONTEXT[1], f'frame {twice} stands twice')
     held = watch.contexts.get(guest)
     if held is not None:
-        return Refusal('fw 0x100 by %d' % held.actor, codes.CONTEXT[2], watch.context_holder_words(guest, held))
+        return Refusal(f'fw 0x100 by {held.actor}', codes.CONTEXT[2], watch.context_holder_words(guest, held))
     if watch.states.get(guest) not in asked.states or asked.bound is not None and watch.bound.get(guest) != asked.bound:
-        return Refusal('fw 0x2', codes.CONTEXT[3], '%s; %s' % (guest_words(watch, guest), asked_words(item)))
+        return Refusal('fw 0x2', codes.CONTEXT[3], f'{guest_words(watch, guest)}; {asked_words(item)}')
     if item.word == 'activate':
         return asid_refusal(watch, item)
     if item.word == 'launch_update' and item.operands[2] not in TYPES:
-        return Refusal('fw 0x16', codes.CONTEXT[6], 'the page type is %d' % item.operands[2])
+        return Refusal('fw 0x16', codes.CONTEXT[6], f'the page type is {item.operands[2]}')
     return refusal_said(seals.context_extra(watch, item))
 
 
@@ -107,10 +108,10 @@ def asid_refusal(watch: Watch, item: Item) -> Optional[Refusal]:
     guest, asid = item.operands
     others = [other.number for other in watch.scenario.guests.values() if other.asid == asid and other.number != guest]
     if others:
-        return Refusal('fw 0xc', codes.CONTEXT[4], 'the ASID %d is that of guest %d' % (asid, others[0]))
+        return Refusal('fw 0xc', codes.CONTEXT[4], f'the ASID {asid} is that of guest {others[0]}')
     own = watch.scenario.guests[guest].asid
     if asid != own:
-        return Refusal('fw 0x16', codes.CONTEXT[5], 'the ASID %d is asked, and guest %d has %d' % (asid, guest, own))
+        return Refusal('fw 0x16', codes.CONTEXT[5], f'the ASID {asid} is asked, and guest {guest} has {own}')
     return None
 
 
@@ -122,18 +123,18 @@ def page_refusal(watch: Watch, item: Item, place: int) -> Optional[Refusal]:
         return Refusal('fw 0x9', codes.PAGE[0], outside_words(frame, watch.scenario.frames))
     held = watch.holder(watch.page_frames(frame))
     if held is not None:
-        return Refusal('fw 0x100 by %d' % held[1].actor, codes.PAGE[1], watch.holder_words(*held))
+        return Refusal(f'fw 0x100 by {held[1].actor}', codes.PAGE[1], watch.holder_words(*held))
     facts = watch.facts_of(frame)
     if facts is None:
         return None
     if facts.is_large and item.word != 'page_reclaim':
         return Refusal('fw 0x19', codes.PAGE[2], watch.entry_words(frame) + watch.change_words(frame))
     if facts.state not in states:
-        return Refusal('fw 0x1a', codes.PAGE[3], 'frame %d is in the state %s, which `%s` doesn\'t take there: it takes %s%s' % (
-            frame, facts.state, item.word, ' or '.join(states), watch.change_words(frame)))
+        return Refusal('fw 0x1a', codes.PAGE[3], (f"frame {frame} is in the state {facts.state}, which `{item.word}` doesn't take there: "
+                                                  f"it takes {' or '.join(states)}{watch.change_words(frame)}"))
     guest = watch.scenario.guests.get(item.operands[0]) if is_owned else None
     if guest is not None and facts.asid != guest.asid:
-        return Refusal('fw 0x1c', codes.PAGE[4], '%s, and the command is for guest %d' % (watch.entry_words(frame), item.operands[0]))
+        return Refusal('fw 0x1c', codes.PAGE[4], f'{watch.entry_words(frame)}, and the command is for guest {item.operands[0]}')
     is_sealing = item.word in seals.SEALS and item.operands[0] in watch.scenario.guests
     return refusal_said(seals.page_extra(watch, item, place)) if is_sealing else None
 
@@ -175,12 +176,12 @@ def fault(watch: Watch, event: Event, attempt: Attempt, item: Item, refusal: Opt
         wanted = commit_of(watch, attempt, item)
         if event.kind not in ('commit', 'commitg'):
             return 'the commit, since all locks are taken'
-        return '' if wanted is None or ' '.join(event.deed + event.outcome) == wanted else '`%s`' % wanted
+        return '' if wanted is None or ' '.join(event.deed + event.outcome) == wanted else f'`{wanted}`'
     if ' '.join(event.deed) != deeds[place]:
-        return '`%s`' % deeds[place]
+        return f'`{deeds[place]}`'
     expected = refusal.answer if refusal is not None else ''
     if is_known(watch, event, item) and expected != event.answer:
-        return '`%s`' % expected if expected else 'let through'
+        return f'`{expected}`' if expected else 'let through'
     return ''
 
 
@@ -188,14 +189,14 @@ def commit_of(watch: Watch, attempt: Attempt, item: Item) -> Optional[str]:
     """The commit of a command with its outcome; nothing where the report alone tells its page."""
     frames = frames_of(item)
     if not frames:
-        return 'commitg %d fw 0x0' % item.operands[0]
+        return f'commitg {item.operands[0]} fw 0x0'
     if item.word in seals.SEALS:
         deed = seals.commit_deed(watch, item, attempt.made)
         return None if deed is None else deed + ' fw 0x0'
     named, told = (frames[-1], watch.facts_of(frames[0]))
     if told is None:
         return None
-    return 'commit %d %s %s fw 0x0' % (named, hex_of(told.gpn), '2m' if told.is_large else '4k')
+    return f"commit {named} {hex_of(told.gpn)} {'2m' if told.is_large else '4k'} fw 0x0"
 
 
 def lock_words(watch: Watch, event: Event, item: Item) -> str:
@@ -203,24 +204,24 @@ def lock_words(watch: Watch, event: Event, item: Item) -> str:
     number = int(event.deed[1])
     if event.kind == 'lockg':
         verb = 'asks for the lock of' if event.outcome else 'takes the lock of'
-        return '%s the context of guest %d%s' % (verb, number, '; ' + guest_words(watch, number) if number in watch.states else '')
+        return f"{verb} the context of guest {number}{'; ' + guest_words(watch, number) if number in watch.states else ''}"
     verb = 'asks for' if event.outcome else 'locks'
     if number >= watch.scenario.frames:
-        return '%s the page of frame %d' % (verb, number)
+        return f'{verb} the page of frame {number}'
     facts = watch.facts_of(number)
-    state = ' (%s)' % facts.state if facts is not None and facts.asid else ''
-    return '%s the page of frame %d; %s%s' % (verb, number, watch.entry_words(number), state)
+    state = f' ({facts.state})' if facts is not None and facts.asid else ''
+    return f'{verb} the page of frame {number}; {watch.entry_words(number)}{state}'
 
 
 def commit_words(watch: Watch, item: Item) -> str:
     """What a commit changes."""
-    words = seals.commit_words if item.word in seals.SEALS else COMMIT_WORDS[item.word]
-    return '%s; the locks are released' % words(watch, item)
+    done = seals.commit_words(watch, item) if item.word in seals.SEALS else COMMIT_WORDS[item.word](watch, item)
+    return f'{done}; the locks are released'
 
 
 def create_words(watch: Watch, item: Item) -> str:
-    return 'frame %d becomes the context page of guest %d, which is now in the state init; its digest is zero' % (
-        item.operands[1], item.operands[0])
+    return (f'frame {item.operands[1]} becomes the context page of guest {item.operands[0]}, which is now in the state init; its digest is '
+            'zero')
 
 
 def update_words(watch: Watch, item: Item) -> str:
@@ -229,16 +230,16 @@ def update_words(watch: Watch, item: Item) -> str:
     page = page_of(facts.gpn) if facts is not None else '?'
     measured = {1: 'its words are measured', 3: 'its words become zero, and the digest tells that it is such a page',
                 4: 'the digest tells its place and permissions alone, and its words stay'}.get(kind, '?')
-    return ('frame %d is launched as page %s of guest %d, of the type %s: %s; the page is validated, with the permissions 15, %s'
-            % (frame, page, guest, TYPES.get(kind, '?'), measured, ', '.join(map(str, item.operands[4:]))))
+    return (f"frame {frame} is launched as page {page} of guest {guest}, of the type {TYPES.get(kind, '?')}: {measured}; the page is "
+            f"validated, with the permissions 15, {', '.join(map(str, item.operands[4:]))}")
 
 
 def move_words(watch: Watch, item: Item) -> str:
     guest, source, target = item.operands
     facts = watch.facts_of(source)
     page = page_of(facts.gpn) if facts is not None else '?'
-    return ('frame %d becomes page %s of guest %d, with the words and the entry of frame %d, which becomes an empty page '
-            '(Pre-Guest) with zero words' % (target, page, guest, source))
+    return (f'frame {target} becomes page {page} of guest {guest}, with the words and the entry of frame {source}, which becomes an empty '
+            'page (Pre-Guest) with zero words')
 
 
 def reclaim_words(watch: Watch, item: Item) -> str:
@@ -246,17 +247,17 @@ def reclaim_words(watch: Watch, item: Item) -> str:
     facts: Optional[Facts] = watch.facts_of(frame)
     whole = '' if facts is None or not facts.is_large else ', and the whole page of 2 MB that it stands in,'
     if facts is None:
-        return 'frame %d is given back' % frame
+        return f'frame {frame} is given back'
     if facts.asid == 0:
-        return 'frame %d becomes a page in the state Reclaim, with zero words' % frame
+        return f'frame {frame} becomes a page in the state Reclaim, with zero words'
     validated = 'Guest-Valid: its guest finds its words as they are' if facts.validated else 'Guest-Invalid: its guest has to accept it'
-    return 'frame %d%s isn\'t immutable any more, and is %s' % (frame, whole, validated)
+    return f"frame {frame}{whole} isn't immutable any more, and is {validated}"
 
 
-COMMIT_WORDS = {
+COMMIT_WORDS: dict[str, Callable[[Watch, Item], str]] = {
     'gctx_create': create_words, 'launch_update': update_words, 'page_move': move_words, 'page_reclaim': reclaim_words,
-    'activate': lambda watch, item: 'guest %d is bound to its ASID %d' % item.operands,
-    'launch_start': lambda watch, item: 'the launch of guest %d begins' % item.operands,
-    'launch_finish': lambda watch, item: 'guest %d runs from here on' % item.operands,
-    'md_init': lambda watch, item: 'frame %d becomes a metadata page with zero words' % item.operands,
+    'activate': lambda watch, item: f'guest {item.operands[0]} is bound to its ASID {item.operands[1]}',
+    'launch_start': lambda watch, item: f'the launch of guest {item.operands[0]} begins',
+    'launch_finish': lambda watch, item: f'guest {item.operands[0]} runs from here on',
+    'md_init': lambda watch, item: f'frame {item.operands[0]} becomes a metadata page with zero words',
 }

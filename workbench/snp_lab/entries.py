@@ -5,7 +5,7 @@ What is the same for a whole range of 2 MB is kept once, so that an RMPUPDATE of
 from __future__ import annotations
 
 from dataclasses import dataclass, field, replace
-from typing import Any, Dict, Optional, Tuple
+from typing import Any, Optional
 
 LARGE = 512
 
@@ -20,7 +20,7 @@ class Facts:
     asid: int = 0
     vmsa: bool = False
     validated: bool = False
-    permissions: Tuple[int, int, int, int] = (0, 0, 0, 0)
+    permissions: tuple[int, int, int, int] = (0, 0, 0, 0)
     kind: str = 'Plain'
 
     @property
@@ -60,14 +60,14 @@ def meet(left: range, right: range) -> bool:
 
 
 def frames_words(frames: range) -> str:
-    return 'frame %d' % frames.start if len(frames) == 1 else 'frames %d to %d' % (frames.start, frames.stop - 1)
+    return f'frame {frames.start}' if len(frames) == 1 else f'frames {frames.start} to {frames.stop - 1}'
 
 
 @dataclass
 class Entries:
     """The facts of all frames. Those that scenario and report don't determine are None; frames that aren't named are free."""
-    whole: Dict[int, Optional[Facts]] = field(default_factory=dict)
-    single: Dict[int, Dict[int, Optional[Facts]]] = field(default_factory=dict)
+    whole: dict[int, Optional[Facts]] = field(default_factory=dict)
+    single: dict[int, dict[int, Optional[Facts]]] = field(default_factory=dict)
 
     def at(self, frame: int) -> Optional[Facts]:
         region, place = divmod(frame, LARGE)
@@ -112,15 +112,15 @@ class Entries:
         return all(self.at(frame) is not None for frame in frames)
 
 
-def changed(facts: Optional[Facts], fields: Dict[str, Any]) -> Optional[Facts]:
+def changed(facts: Optional[Facts], fields: dict[str, Any]) -> Optional[Facts]:
     return None if facts is None else replace(facts, **fields)
 
 
 @dataclass
 class Marks:
     """For each frame the last event of some kind."""
-    whole: Dict[int, int] = field(default_factory=dict)
-    single: Dict[int, int] = field(default_factory=dict)
+    whole: dict[int, int] = field(default_factory=dict)
+    single: dict[int, int] = field(default_factory=dict)
 
     def put(self, frames: range, event: int) -> None:
         if is_whole(frames):

@@ -7,23 +7,26 @@ import random
 import signal
 import sys
 import time
+from collections.abc import Callable
 from concurrent.futures import FIRST_COMPLETED, Future, ProcessPoolExecutor, wait
 from dataclasses import dataclass, field
-from typing import Dict, List, Optional, Pattern, Set, Tuple
+from typing import Any, Optional, Union
 
+from .before import read_before
 from .codes import outcome_words
 from .patterns import names_a_number, pattern_of
 from .program import Program
-from .runs import Node, Played, Search
+from .runs import Branch, Played, Search
 from .scenario import order_lines, parse, runs_of, without_order
 from .texts import Complaint
 
-# How much a process does before it tells what it found.
-BATCH = 24
-SECONDS_OF_BATCH = 0.5
+# How many runs a process makes before it tells them.
+BATCH = 8
 PASSED_OVER = 'passed over'
-Rank = Tuple[int, bytes]
-Key = Tuple[int, int]
+Rank = tuple[int, bytes]
+Key = tuple[int, int]
+# A run as a process tells it: the schedule and its report.
+Told = tuple[bytes, str]
 
 
 @dataclass
@@ -36,7 +39,7 @@ class Options:
     joint: bool = False
     after: int = 0
     seconds: Optional[float] = None
-    until: List[str] = field(default_factory=list)
+    until: list[str] = field(default_factory=list)
 
 
 def rank(schedule: bytes) -> Rank:
@@ -46,40 +49,34 @@ def rank(schedule: bytes) -> Rank:
 
 @dataclass
 class Found:
-    """What runs have shown so far: for each item its outcomes, and for the whole run its outcomes, each with the best schedule."""
+    """What runs have shown so far: for each item its outcomes, for the whole run its outcomes, and which patterns whole reports have
+    (a bit for each), all with the best schedule."""
     runs: int = 0
-    repeats: int = 0
-    items: Dict[Key, Dict[str, Tuple[int, Rank]]] = field(default_factory=dict)
-    wholes: Dict[Tuple[Tuple[Key, str], ...], Tuple[int, Rank]] = field(default_factory=dict)
-    hit: Optional[Rank] = None
+    items: dict[Key, dict[str, tuple[int, Rank]]] = field(default_factory=dict)
+    wholes: dict[tuple[tuple[Key, str], ...], tuple[int, Rank]] = field(default_factory=dict)
+    likes: dict[int, tuple[int, Rank]] = field(default_factory=dict)
 
-    def add(self, outcomes: Dict[Key, str], schedule: bytes) -> None:
+    def add(self, outcomes: dict[Key, str], likes: int, schedule: bytes) -> None:
         place = rank(schedule)
         self.runs += 1
         for key, outcome in outcomes.items():
-            self.put(self.items.setdefault(key, {}), outcome, 1, place)
-        self.put(self.wholes, tuple(sorted(outcomes.items())), 1, place)
+            put(self.items.setdefault(key, {}), outcome, place)
+        put(self.wholes, tuple(sorted(outcomes.items())), place)
+        put(self.likes, likes, place)
 
-    @staticmethod
-    def put(table: Dict, name: object, many: int, place: Rank) -> None:  # type: ignore[type-arg]
-        known = table.get(name)
-        table[name] = (many, place) if known is None else (known[0] + many, min(known[1], place))
-
-    def merge(self, other: 'Found') -> None:
-        self.runs += other.runs
-        self.repeats += other.repeats
-        for key, table in other.items.items():
-            for outcome, (many, place) in table.items():
-                self.put(self.items.setdefault(key, {}), outcome, many, place)
-        for whole, (many, place) in other.wholes.items():
-            self.put(self.wholes, whole, many, place)
-        if other.hit is not None:
-            self.hit = other.hit if self.hit is None else min(self.hit, other.hit)
+    def with_like(self, bits: int, wanted: int) -> Optional[Rank]:
+        """The best schedule whose report has just these of some patterns."""
+        return min((place for likes, (_, place) in self.likes.items() if likes & bits == wanted), default=None)
 
 
-def outcomes_of(search: Search, played: Played) -> Dict[Key, str]:
+def put(table: dict[Any, tuple[int, Rank]], name: object, place: Rank) -> None:
+    known = table.get(name)
+    table[name] = (1, place) if known is None else (known[0] + 1, min(known[1], place))
+
+
+def outcomes_of(search: Search, played: Played) -> dict[Key, str]:
     """The outcome of each item of a run; of one that was attempted again all of them, equal ones in a row told once."""
-    outcomes: Dict[Key, str] = {(actor.number, k): PASSED_OVER for actor in search.scenario.actors.values()
+    outcomes: dict[Key, str] = {(actor.number, k): PASSED_OVER for actor in search.scenario.actors.values()
                                 for k in range(len(actor.items))}
     for event in played.events:
         key = event.actor, event.item
@@ -90,70 +87,41 @@ def outcomes_of(search: Search, played: Played) -> Dict[Key, str]:
     return outcomes
 
 
-@dataclass
-class Goal:
-    """Lines that one report must have: those of events, or of the whole text where their numbers matter."""
-    patterns: List[Pattern[str]]
-    by_number: bool
-
-    def is_met(self, played: Played) -> bool:
-        if self.by_number:
-            lines = played.lines
-        else:
-            lines = ['K ' + event.rest for event in played.events]
-        return all(any(pattern.match(line) for line in lines) for pattern in self.patterns)
+def by_number(text: str) -> bool:
+    """Whether a pattern is of a line whose words depend on how many events came before, as an event's number."""
+    return names_a_number(text) or text.split()[0] not in ('*', '...', 'guest')
 
 
-def goal_of(texts: List[str]) -> Optional[Goal]:
-    if not texts:
-        return None
-    if not all(text.split() for text in texts):
-        raise Complaint('`--until` has a pattern of a report line, as `* 1 1.0 data ... npf *`')
-    by_number = any(names_a_number(text) or text.split()[0] not in ('*', '...') for text in texts)
-    return Goal([pattern_of(text) for text in texts], by_number)
+def likes_of(search: Search, played: Played, numbered: bool) -> int:
+    """Which patterns the lines of a report are like, a bit for each."""
+    likes = 0
+    for step in played.steps:
+        likes |= step.likes
+    for line in played.lines if numbered else played.ending:
+        likes |= sum(1 << k for k, pattern in enumerate(search.patterns) if pattern.match(line))
+    return likes
 
 
 # What a worker process keeps between its batches.
-SHARED: Dict[str, object] = {}
+SHARED: dict[str, Search] = {}
 
 
-def start_worker(search: Search, goal: Optional[Goal]) -> None:
+def start_worker(search: Search) -> None:
     signal.signal(signal.SIGINT, signal.SIG_IGN)
     signal.signal(signal.SIGTERM, signal.SIG_DFL)
-    SHARED['search'], SHARED['goal'] = search, goal
+    SHARED['search'] = search
 
 
-def work(nodes: List[Node], budget: int) -> Tuple[Found, List[Node]]:
-    """Runs branches, the newest first, as often as the budget says and for a short time; what was found, and what is left."""
-    search, goal = SHARED['search'], SHARED['goal']
-    assert isinstance(search, Search)
-    found = Found()
-    start = time.monotonic()
-    while nodes and found.runs + found.repeats < budget and found.hit is None and time.monotonic() - start < SECONDS_OF_BATCH:
-        played, branches = search.visit(nodes.pop())
-        nodes += branches
-        note(search, found, goal, played)
-    return found, nodes
+def work(branches: list[tuple[bytes, Optional[int]]]) -> list[Told]:
+    """Runs branches to their ends."""
+    search = SHARED['search']
+    played = [search.run(Branch(before, actor)) for before, actor in branches]
+    return [(one.schedule, '\n'.join(one.lines) + '\n') for one in played]
 
 
-def work_random(seeds: List[str], before: bytes) -> Tuple[Found, List[Node]]:
-    search, goal = SHARED['search'], SHARED['goal']
-    assert isinstance(search, Search)
-    found = Found()
-    for seed in seeds:
-        note(search, found, goal, search.shuffled(before, random.Random(seed)))
-        if found.hit is not None:
-            break
-    return found, []
-
-
-def note(search: Search, found: Found, goal: object, played: Optional[Played]) -> None:
-    if played is None:
-        found.repeats += 1
-        return
-    found.add(outcomes_of(search, played), played.schedule)
-    if isinstance(goal, Goal) and goal.is_met(played):
-        found.hit = rank(played.schedule)
+def work_random(seeds: list[str], before: bytes) -> list[Told]:
+    played = [SHARED['search'].shuffled(before, random.Random(seed)) for seed in seeds]
+    return [(one.schedule, '\n'.join(one.lines) + '\n') for one in played]
 
 
 class Progress:
@@ -169,8 +137,8 @@ class Progress:
         if now - self.last < (0.5 if self.is_terminal else 5):
             return
         self.last, self.shown = now, True
-        text = 'snp-lab: %d runs in %d s, %d outcomes of items, %d branches waiting' % (
-            found.runs + found.repeats, now - self.start, sum(len(table) for table in found.items.values()), left)
+        text = (f'snp-lab: {found.runs} runs in {now - self.start:.0f} s, {sum(len(table) for table in found.items.values())} '
+                f'outcomes of items, {left} branches waiting')
         print('\r\033[K' + text if self.is_terminal else text, end='' if self.is_terminal else '\n', file=sys.stderr, flush=True)
 
     def clear(self) -> None:
@@ -178,46 +146,68 @@ class Progress:
             print('\r\033[K', end='', file=sys.stderr, flush=True)
 
 
+Batch = Union[list[Branch], list[str]]
+
+
 class Explorer:
-    """A search over several processes."""
+    """A search over several processes: they run the program, and this one goes through what it reports."""
 
     def __init__(self, program: Program, text: str, name: str, options: Options) -> None:
         self.options = options
         scenario = parse(text, name)
         if not any(actor.items for actor in scenario.actors.values()):
             raise Complaint('no actor of this scenario has an item', name)
-        self.goal = goal_of(options.until)
-        by_number = self.goal is not None and self.goal.by_number
-        self.search = Search(program, scenario, without_order(text), reduce=not (options.full or by_number))
+        if not all(pattern.split() for pattern in options.until):
+            raise Complaint('`--until` has a pattern of a report line, as `* 1 1.0 data ... npf *`')
+        self.numbered = any(by_number(pattern) for pattern in options.until)
+        self.search = Search(program, scenario, without_order(text), reduce=not (options.full or self.numbered),
+                             keeps_wholes=options.joint, patterns=[pattern_of(pattern) for pattern in options.until],
+                             waits=read_before(text, scenario))
         spelled = bytes(actor for actor, many in scenario.schedule for _ in range(many) if actor < 256)
         if len(spelled) < options.after:
-            raise Complaint('the order has %d events, and --after asks for %d' % (len(spelled), options.after), name)
+            raise Complaint(f'the order has {len(spelled)} events, and --after asks for {options.after}', name)
         self.before = spelled[:options.after]
         self.found = Found()
-        self.nodes: List[Node] = []
+        self.branches: list[Branch] = []
         self.stopped = ''
         self.randomly = 0
-        self.first_counts: List[int] = []
+        self.first_counts: list[int] = []
+        self.has_enough: Callable[[Found], bool] = lambda found: bool(options.until) and self.hit is not None
+
+    @property
+    def every_like(self) -> int:
+        return (1 << len(self.search.patterns)) - 1
+
+    @property
+    def hit(self) -> Optional[Rank]:
+        """The best schedule whose report has all that was looked for."""
+        return self.found.with_like(self.every_like, self.every_like) if self.search.patterns else None
+
+    @property
+    def tried_all(self) -> bool:
+        return not self.stopped and not self.branches and self.options.most > 0
 
     def is_over(self, start: float) -> bool:
-        if self.found.hit is not None:
+        if self.has_enough(self.found):
             return True
         if self.options.seconds is not None and time.monotonic() - start > self.options.seconds:
-            self.stopped = 'stopped after %g s' % self.options.seconds
+            self.stopped = f'stopped after {self.options.seconds:g} s'
         return bool(self.stopped)
+
+    def note(self, played: Played) -> None:
+        self.found.add(outcomes_of(self.search, played), likes_of(self.search, played, self.numbered), played.schedule)
+
+    def take(self, branch: Branch, played: Played) -> None:
+        """Takes a run of the program, and goes on behind it."""
+        self.note(played)
+        self.branches += self.search.walk(branch, played.steps)
 
     def first_run(self) -> None:
         """The first run, which says how many events each actor has about."""
-        SHARED['search'], SHARED['goal'] = self.search, self.goal
-        root = Node(self.before)
-        if self.options.most <= 0:
-            counted = self.search.complete(self.before, sorted(self.search.scenario.actors)).schedule
-        else:
-            played, self.nodes = self.search.visit(root)
-            assert played is not None
-            note(self.search, self.found, self.goal, played)
-            counted = played.schedule
-        behind = counted[len(self.before):]
+        played = self.search.run(Branch(self.before))
+        if self.options.most > 0:
+            self.take(Branch(self.before), played)
+        behind = played.schedule[len(self.before):]
         self.first_counts = [behind.count(actor) for actor in self.search.scenario.actors]
 
     def run(self) -> None:
@@ -231,10 +221,10 @@ class Explorer:
         pool: Optional[ProcessPoolExecutor] = None
         try:
             self.first_run()
-            if self.options.jobs > 1 and (self.nodes or self.options.most <= 0) and not self.is_over(start):
-                pool = ProcessPoolExecutor(self.options.jobs, initializer=start_worker, initargs=(self.search, self.goal))
+            if self.options.jobs > 1 and (self.branches or self.options.most <= 0) and not self.is_over(start):
+                pool = ProcessPoolExecutor(self.options.jobs, initializer=start_worker, initargs=(self.worker_search(),))
             self.exhaust(pool, progress, start)
-            if (self.nodes or self.options.most <= 0) and not self.is_over(start):
+            if (self.branches or self.options.most <= 0) and not self.is_over(start):
                 self.at_random(pool, progress, start)
         except KeyboardInterrupt:
             self.stopped = 'stopped by its user'
@@ -245,62 +235,78 @@ class Explorer:
             if pool is not None:
                 pool.shutdown(wait=False, cancel_futures=True)
 
+    def worker_search(self) -> Search:
+        """What a process needs to run schedules; it looks for no patterns and keeps no states."""
+        one = self.search
+        return Search(one.program, one.scenario, one.head, waits=one.waits, totals=dict(one.totals))
+
+    def next_branch(self) -> Optional[Branch]:
+        """The newest branch that wants a run; those that are known without one are gone through at once."""
+        while self.branches:
+            branch = self.branches.pop()
+            if self.search.is_tried(branch):
+                continue
+            if branch.steps is None:
+                return branch
+            self.branches += self.search.walk(branch, branch.steps)
+        return None
+
+    def next_batch(self, most: int) -> list[Branch]:
+        batch: list[Branch] = []
+        while len(batch) < most:
+            branch = self.next_branch()
+            if branch is None:
+                break
+            batch.append(branch)
+        return batch
+
     def exhaust(self, pool: Optional[ProcessPoolExecutor], progress: Progress, start: float) -> None:
         """Tries branches until none is left or the most is reached."""
-        if self.options.most <= 0:
-            return
-        running: 'Set[Future[Tuple[Found, List[Node]]]]' = set()
-        budgets: 'Dict[Future[Tuple[Found, List[Node]]], int]' = {}
-        while (self.nodes or running) and not self.is_over(start):
-            left = self.options.most - self.found.runs - self.found.repeats - sum(budgets[one] for one in running)
-            if pool is None:
-                if left <= 0:
-                    return
-                found, self.nodes = work(self.nodes, min(BATCH, left))
-                self.found.merge(found)
-            else:
-                while self.nodes and left > 0 and len(running) < 2 * self.options.jobs:
-                    share = max(1, min(len(self.nodes) // (2 * self.options.jobs), BATCH))
-                    batch, self.nodes = self.nodes[:share], self.nodes[share:]
-                    one = pool.submit(work, batch, min(BATCH, left))
-                    running.add(one)
-                    budgets[one] = min(BATCH, left)
-                    left -= budgets[one]
-                if not running:
-                    return
-                done, running = wait(running, timeout=0.5, return_when=FIRST_COMPLETED)
+        running: dict[Future[list[Told]], list[Branch]] = {}
+        left = self.options.most - self.found.runs
+        while (self.branches or running) and not self.is_over(start):
+            while left > 0 and len(running) < 2 * self.options.jobs:
+                share = min(BATCH, left, max(1, len(self.branches) // (2 * self.options.jobs)))
+                batch = self.next_batch(share)
+                if not batch:
+                    break
+                left -= len(batch)
+                if pool is None:
+                    for branch in batch:
+                        self.take(branch, self.search.run(branch))
+                    break
+                running[pool.submit(work, [(branch.before, branch.actor) for branch in batch])] = batch
+            if left <= 0 and not running:
+                return
+            if running:
+                done, _ = wait(running, timeout=0.5, return_when=FIRST_COMPLETED)
                 for one in done:
-                    self.gather(one)
-            progress.show(self.found, len(self.nodes))
-        for one in running:
-            self.nodes.append(Node(self.before))
+                    for branch, (schedule, output) in zip(running.pop(one), one.result()):
+                        self.take(branch, self.search.played(schedule, output))
+            progress.show(self.found, len(self.branches))
+        for one, batch in running.items():
+            self.branches += batch
             one.cancel()
-
-    def gather(self, one: 'Future[Tuple[Found, List[Node]]]') -> None:
-        found, nodes = one.result()
-        self.found.merge(found)
-        self.nodes += nodes
 
     def at_random(self, pool: Optional[ProcessPoolExecutor], progress: Progress, start: float) -> None:
         """Random interleavings, where there are more than the most."""
-        seeds = ['%d.%d' % (self.options.seed, k) for k in range(self.options.random)]
-        batches = [seeds[k:k + BATCH // 4] for k in range(0, len(seeds), BATCH // 4)]
+        seeds = [f'{self.options.seed}.{k}' for k in range(self.options.random)]
+        batches = [seeds[k:k + BATCH] for k in range(0, len(seeds), BATCH)]
         before = self.found.runs
-        if pool is None:
-            for batch in batches:
-                if self.is_over(start):
-                    break
-                self.found.merge(work_random(batch, self.before)[0])
-                progress.show(self.found, 0)
-        else:
-            running = {pool.submit(work_random, batch, self.before) for batch in batches}
-            while running and not self.is_over(start):
+        SHARED['search'] = self.search
+        running = {pool.submit(work_random, batch, self.before) for batch in batches} if pool is not None else set()
+        while (batches if pool is None else running) and not self.is_over(start):
+            told: list[Told] = []
+            if pool is None:
+                told = work_random(batches.pop(), self.before)
+            else:
                 done, running = wait(running, timeout=0.5, return_when=FIRST_COMPLETED)
-                for one in done:
-                    self.found.merge(one.result()[0])
-                progress.show(self.found, 0)
-            for one in running:
-                one.cancel()
+                told = [one for batch in done for one in batch.result()]
+            for schedule, output in told:
+                self.note(self.search.played(schedule, output))
+            progress.show(self.found, 0)
+        for one in running:
+            one.cancel()
         self.randomly = self.found.runs - before
 
     # What is printed
@@ -320,30 +326,31 @@ class Explorer:
         if not self.first_counts:
             return 'stopped before the first run had ended'
         total = self.total()
-        about = 'about %d interleavings' % total if total < 10 ** 9 else 'about 10^%d interleavings' % (len(str(total)) - 1)
-        runs = '%d run%s' % (self.found.runs, '' if self.found.runs == 1 else 's')
-        if self.found.hit is not None:
-            return '%s; found after %s' % (about, runs)
+        about = f'about {total} interleavings' if total < 10 ** 9 else f'about 10^{len(str(total)) - 1} interleavings'
+        about += ', with those that `# before` lines leave out' if self.search.waits else ''
+        runs = f"{self.found.runs} run{'' if self.found.runs == 1 else 's'}"
+        if self.hit is not None:
+            return f'{about}; found after {runs}'
         if self.stopped:
-            return '%s; %s, after %s: not all were tried' % (about, self.stopped, runs)
-        if self.nodes or self.options.most <= 0:
-            return '%s; %s, %d of them at random: not all were tried' % (about, runs, self.randomly)
+            return f'{about}; {self.stopped}, after {runs}: not all were tried'
+        if self.branches or self.options.most <= 0:
+            return f'{about}; {runs}, {self.randomly} of them at random: not all were tried'
         if self.search.reduce:
-            return '%s; %s stand%s for all of them: events that touch nothing in common give the same in any order' % (
-                about, runs, 's' if self.found.runs == 1 else '')
-        return '%s by the first run\'s events; all %d were run' % (about, self.found.runs)
+            return (f"{about}; {runs} stand{'s' if self.found.runs == 1 else ''} for all of them: what touches nothing in common gives the "
+                    'same in any order, and what comes behind equal states is run once')
+        return f"{about} by the first run's events; all {self.found.runs} were run"
 
-    def item_lines(self) -> List[str]:
-        lines: List[str] = []
+    def item_lines(self) -> list[str]:
+        lines: list[str] = []
         for actor in self.search.scenario.actors.values():
-            lines.append('actor %d, %s' % (actor.number, actor.title))
+            lines.append(f'actor {actor.number}, {actor.title}')
             for k, item in enumerate(actor.items):
                 table = self.found.items.get((actor.number, k), {})
-                lines.append('  item %d `%s`: %d outcome%s' % (k, item.text, len(table), '' if len(table) == 1 else 's'))
+                lines.append(f"  item {k} `{item.text}`: {len(table)} outcome{'' if len(table) == 1 else 's'}")
                 for outcome, (many, place) in sorted(table.items(), key=lambda one: one[1][1]):
                     words = self.words_of(outcome, actor.role)
-                    lines.append('    %s%s' % (outcome, ' (%s)' % words if words else ''))
-                    lines.append('      in %d of %d runs, as by' % (many, self.found.runs))
+                    lines.append(f'    {outcome}' + (f' ({words})' if words else ''))
+                    lines.append(f'      in {many} of {self.found.runs} runs, as by')
                     lines += ['      ' + line for line in self.schedule_text(place).split('\n')]
         return lines
 
@@ -352,20 +359,20 @@ class Explorer:
         last = tuple(outcome.split(', then ')[-1].split(' '))
         return outcome_words(last, 'host' if role == 'host' else 'data') if last[0] in ('npf', 'pf', 'vc', 'rc', 'fw') else ''
 
-    def whole_lines(self) -> List[str]:
-        many = len(self.found.wholes)
-        lines = ['%d outcome%s of the whole run%s' % (many, '' if many == 1 else 's', '' if self.options.joint else '; --joint lists them')]
+    def whole_lines(self) -> list[str]:
         if not self.options.joint:
-            return lines
+            return ['--joint lists the outcomes of whole runs']
+        many = len(self.found.wholes)
+        lines = [f"{many} outcome{'' if many == 1 else 's'} of the whole run"]
         for whole, (count, place) in sorted(self.found.wholes.items(), key=lambda one: one[1][1]):
-            lines.append('  ' + '; '.join('%d %d: %s' % (key[0], key[1], outcome) for key, outcome in whole))
-            lines.append('    in %d of %d runs, as by' % (count, self.found.runs))
+            lines.append('  ' + '; '.join(f'{key[0]} {key[1]}: {outcome}' for key, outcome in whole))
+            lines.append(f'    in {count} of {self.found.runs} runs, as by')
             lines += ['    ' + line for line in self.schedule_text(place).split('\n')]
         return lines
 
-    def claims(self) -> Dict[bytes, List[Tuple[Key, str]]]:
+    def claims(self) -> dict[bytes, list[tuple[Key, str]]]:
         """What is printed of each schedule."""
-        said: Dict[bytes, List[Tuple[Key, str]]] = {}
+        said: dict[bytes, list[tuple[Key, str]]] = {}
         for key, table in self.found.items.items():
             for outcome, (_, place) in table.items():
                 said.setdefault(place[1], []).append((key, outcome))
@@ -379,28 +386,36 @@ class Explorer:
         for schedule, claims in said.items():
             answer, refused = self.search.ask(schedule)
             if answer is None:
-                raise Complaint('the check failed: a schedule that was found is refused at entry %d' % refused, self.search.scenario.name)
-            outcomes = outcomes_of(self.search, Played(schedule, answer.events, answer.lines))
+                raise Complaint(f'the check failed: a schedule that was found is refused at entry {refused}', self.search.scenario.name)
+            outcomes = outcomes_of(self.search, answer)
             for key, outcome in claims:
                 if outcomes[key] != outcome:
-                    raise Complaint('the check failed: `%s` gives item %d of actor %d %s and not %s' % (
-                        self.schedule_text(rank(schedule)), key[1], key[0], outcomes[key], outcome), self.search.scenario.name)
-        return 'checked: each schedule above, %d in all, was replayed and gives what is said of it' % len(said)
+                    raise Complaint(f'the check failed: `{self.schedule_text(rank(schedule))}` gives item {key[1]} of actor '
+                                    f'{key[0]} {outcomes[key]} and not {outcome}', self.search.scenario.name)
+        return f'checked: each schedule above, {len(said)} in all, was replayed and gives what is said of it'
 
-    def hit_lines(self) -> List[str]:
+    def check_like(self, place: Rank, bit: int) -> None:
+        """Replays a schedule that decided on a pattern, and compares."""
+        likes = next(likes for likes, (_, other) in self.found.likes.items() if other == place)
+        answer, _ = self.search.ask(place[1])
+        if answer is None or likes_of(self.search, answer, self.numbered) & bit != likes & bit:
+            raise Complaint('the check failed: a schedule that was found gives another report', self.search.scenario.name)
+
+    def hit_lines(self) -> list[str]:
         """The schedule that was looked for, with the lines of its report that are like the patterns."""
-        assert self.found.hit is not None and self.goal is not None
-        answer, _ = self.search.ask(self.found.hit[1])
+        assert self.hit is not None
+        answer, _ = self.search.ask(self.hit[1])
         if answer is None:
             raise Complaint('the check failed: the schedule that was found is refused', self.search.scenario.name)
-        shown: List[str] = []
-        for pattern in self.goal.patterns:
-            lines = [line if self.goal.by_number else 'K ' + line.partition(' ')[2] for line in answer.lines]
-            match = next((text for text, line in zip(answer.lines, lines) if pattern.match(line)), None)
+        shown: list[str] = []
+        for pattern in self.search.patterns:
+            lines = ['K ' + step.line for step in answer.steps] if not self.numbered else answer.lines[1:]
+            lines += [] if self.numbered else answer.ending
+            match = next((text for text, line in zip(answer.lines[1:], lines) if pattern.match(line)), None)
             if match is None:
                 raise Complaint('the check failed: the schedule that was found has no such line', self.search.scenario.name)
             shown.append('  ' + match)
-        return self.schedule_text(self.found.hit).split('\n') + ['its report, replayed, has'] + shown
+        return self.schedule_text(self.hit).split('\n') + ['its report, replayed, has'] + shown
 
 
 def default_jobs() -> int:
@@ -413,8 +428,9 @@ def explore(program: Program, text: str, name: str, options: Options) -> int:
     explorer.run()
     print(explorer.summary())
     if options.until:
-        if explorer.found.hit is None:
-            print('no run that was tried has %s' % ('such a line' if len(options.until) == 1 else 'such lines'))
+        if explorer.hit is None:
+            lines = 'such a line' if len(options.until) == 1 else 'such lines'
+            print(f'no run has {lines}: all orders were tried' if explorer.tried_all else f'no run that was tried has {lines}')
             return 130 if explorer.stopped else 1
         print('\n'.join(explorer.hit_lines()))
         return 0

@@ -6,7 +6,8 @@ changes. A fact that the two don't determine is None.
 from __future__ import annotations
 
 from dataclasses import dataclass, field, replace
-from typing import Any, Callable, Dict, List, Optional, Tuple
+from collections.abc import Callable
+from typing import Any, Optional
 
 from . import seals
 from .entries import FREE, LARGE, RECLAIM, Entries, Facts, Marks, frames_from, meet
@@ -34,7 +35,7 @@ class Lock:
 @dataclass
 class Attempt:
     """An attempt, by its events so far, and what its walks have come to."""
-    events: List[Event] = field(default_factory=list)
+    events: list[Event] = field(default_factory=list)
     gpn: Optional[int] = None
     level: int = 4
     table_reads: int = 0
@@ -49,20 +50,20 @@ class Watch:
     """The machine as far as scenario and report tell it, up to the events that were taken so far."""
     scenario: Scenario
     rmp: Entries = field(default_factory=Entries)
-    locks: List[Lock] = field(default_factory=list)
-    contexts: Dict[int, Lock] = field(default_factory=dict)
-    states: Dict[int, str] = field(default_factory=dict)
-    bound: Dict[int, bool] = field(default_factory=dict)
-    attempts: Dict[int, Attempt] = field(default_factory=dict)
+    locks: list[Lock] = field(default_factory=list)
+    contexts: dict[int, Lock] = field(default_factory=dict)
+    states: dict[int, str] = field(default_factory=dict)
+    bound: dict[int, bool] = field(default_factory=dict)
+    attempts: dict[int, Attempt] = field(default_factory=dict)
     memory: Memory = field(default_factory=Memory)
-    counters: Dict[int, int] = field(default_factory=dict)
-    roots: Dict[int, Optional[Entry]] = field(default_factory=dict)
-    archive: Dict[Tuple[int, int], Content] = field(default_factory=dict)
-    last_write: Dict[Tuple[int, int], int] = field(default_factory=dict)
-    commits: Dict[int, Event] = field(default_factory=dict)
+    counters: dict[int, int] = field(default_factory=dict)
+    roots: dict[int, Optional[Entry]] = field(default_factory=dict)
+    archive: dict[tuple[int, int], Content] = field(default_factory=dict)
+    last_write: dict[tuple[int, int], int] = field(default_factory=dict)
+    commits: dict[int, Event] = field(default_factory=dict)
     last_change: Marks = field(default_factory=Marks)
     last_refill: Marks = field(default_factory=Marks)
-    refills: Dict[Tuple[int, int], str] = field(default_factory=dict)
+    refills: dict[tuple[int, int], str] = field(default_factory=dict)
 
     def __post_init__(self) -> None:
         for guest in self.scenario.guests.values():
@@ -96,19 +97,19 @@ class Watch:
         """The frames that a lock covers: the range of RMPUPDATE, and else the page in which the frame stands."""
         return item.frames if item.word == 'rmpupdate' else self.page_frames(frame)
 
-    def holder(self, frames: range) -> Optional[Tuple[int, Lock]]:
+    def holder(self, frames: range) -> Optional[tuple[int, Lock]]:
         """The lowest locked frame of a range, with its lock."""
         held = [(max(lock.frames.start, frames.start), lock) for lock in self.locks if meet(lock.frames, frames)]
-        return min(held, key=lambda one: one[0], default=None)
+        return min(held, key=lambda one: one[0]) if held else None
 
     def holder_words(self, frame: int, lock: Lock) -> str:
         """Who holds a lock, and since when."""
-        return 'actor %d holds the lock of frame %d, which event %d took for `%s`' % (
-            lock.actor, frame, lock.event.number, self.item_text(lock.event))
+        return (f'actor {lock.actor} holds the lock of frame {frame}, which event {lock.event.number} took for '
+                f'`{self.item_text(lock.event)}`')
 
     def context_holder_words(self, guest: int, lock: Lock) -> str:
-        return 'actor %d holds the lock of the context of guest %d, which event %d took for `%s`' % (
-            lock.actor, guest, lock.event.number, self.item_text(lock.event))
+        return (f'actor {lock.actor} holds the lock of the context of guest {guest}, which event {lock.event.number} took for '
+                f'`{self.item_text(lock.event)}`')
 
     def change_words(self, frame: int) -> str:
         """Who changed the entry of a frame last; nothing where it is that of the opening."""
@@ -116,7 +117,7 @@ class Watch:
         if number is None:
             return ''
         event = self.commits[number]
-        return '; event %d, `%s` of actor %d, changed the entry last' % (number, self.item_text(event), event.actor)
+        return f'; event {number}, `{self.item_text(event)}` of actor {event.actor}, changed the entry last'
 
     def item_text(self, event: Event) -> str:
         item = self.item_of(event)
@@ -126,21 +127,21 @@ class Watch:
         """Whose an ASID is, in words."""
         for guest in self.scenario.guests.values():
             if guest.asid == asid:
-                return 'guest %d' % guest.number
-        return 'ASID %d' % asid
+                return f'guest {guest.number}'
+        return f'ASID {asid}'
 
     def entry_words(self, frame: int) -> str:
         """The entry of a frame in words: `frame 9 is page 0x1 of guest 1`."""
         facts = self.facts_of(frame)
         if facts is None:
-            return 'frame %d has an entry that the report doesn\'t tell' % frame
+            return f"frame {frame} has an entry that the report doesn't tell"
         if not facts.assigned:
-            return 'frame %d is nobody\'s' % frame
+            return f"frame {frame} is nobody's"
         if facts.asid == 0:
-            return 'frame %d is the firmware\'s (%s)' % (frame, facts.state)
+            return f"frame {frame} is the firmware's ({facts.state})"
         more = ([] if not facts.is_large else ['in a page of 2 MB']) + ([] if facts.validated else ['not validated']) \
             + (['immutable'] if facts.immutable else [])
-        return ', '.join(['frame %d is page %s of %s' % (frame, page_of(facts.gpn), self.guest_name(facts.asid))] + more)
+        return ', '.join([f'frame {frame} is page {page_of(facts.gpn)} of {self.guest_name(facts.asid)}'] + more)
 
     def open_attempt(self, event: Event) -> Attempt:
         """The attempt of an event, with the state of its walks before the event."""
@@ -260,7 +261,7 @@ class Watch:
         if number is None or number < since:
             return ''
         event = self.commits[number]
-        return 'event %d, `%s` of actor %d, %s' % (number, self.item_text(event), event.actor, self.refilled(number, frame))
+        return f'event {number}, `{self.item_text(event)}` of actor {event.actor}, {self.refilled(number, frame)}'
 
     def refilled(self, number: int, frame: int) -> str:
         """What a commit did to all words of a frame."""
@@ -271,17 +272,17 @@ class Watch:
 ZEROED = 'words became zero'
 
 
-def refills_of_launch(watch: Watch, item: Item) -> Dict[range, str]:
+def refills_of_launch(watch: Watch, item: Item) -> dict[range, str]:
     return {only(item.operands[1]): 'launched the frame as a ZERO page, and its ' + ZEROED} if item.operands[2] == 3 else {}
 
 
-def refills_of_move(watch: Watch, item: Item) -> Dict[range, str]:
+def refills_of_move(watch: Watch, item: Item) -> dict[range, str]:
     _, source, target = item.operands
-    return {only(source): 'moved the page away to frame %d, and the frame\'s %s' % (target, ZEROED),
-            only(target): 'moved the words here from frame %d' % source}
+    return {only(source): f"moved the page away to frame {target}, and the frame's {ZEROED}",
+            only(target): f'moved the words here from frame {source}'}
 
 
-def refills_of_reclaim(watch: Watch, item: Item) -> Dict[range, str]:
+def refills_of_reclaim(watch: Watch, item: Item) -> dict[range, str]:
     facts = watch.facts_of(item.operands[0])
     if facts is None or facts.asid:
         return {}
@@ -289,12 +290,12 @@ def refills_of_reclaim(watch: Watch, item: Item) -> Dict[range, str]:
 
 
 # Which frames' words a command of the firmware changes as a whole, and how; told before its commit.
-REFILLS: Dict[str, Callable[[Watch, Item], Dict[range, str]]] = {
+REFILLS: dict[str, Callable[[Watch, Item], dict[range, str]]] = {
     'launch_update': refills_of_launch, 'page_move': refills_of_move, 'page_reclaim': refills_of_reclaim,
     'md_init': lambda watch, item: {only(item.operands[0]): 'made a metadata page of the frame, and its ' + ZEROED}}
 
 # The word that an item writes, by the word before it.
-WRITTEN: Dict[str, Callable[[Item, int], int]] = {
+WRITTEN: dict[str, Callable[[Item, int], int]] = {
     'store': lambda item, old: item.operands[1], 'swap': lambda item, old: item.operands[1],
     'xor': lambda item, old: old ^ item.operands[1], 'cas': lambda item, old: item.operands[2]}
 

@@ -5,7 +5,8 @@ Ciphertexts and tags are computed when they are asked for, so that a report with
 from __future__ import annotations
 
 from dataclasses import dataclass, field
-from typing import Dict, List, Optional, Sequence, Tuple, Union
+from collections.abc import Sequence
+from typing import Optional, Union
 
 from . import gcm
 from .gcm import WORDS
@@ -19,13 +20,13 @@ METADATA_GPN = 1 << 63
 @dataclass
 class Words:
     """Words by their places; the others are zero. `was` is the ciphertext that stood there before some of them were written."""
-    known: Dict[int, int] = field(default_factory=dict)
+    known: dict[int, int] = field(default_factory=dict)
     was: Optional['Sealed'] = None
 
     def word(self, index: int) -> int:
         return self.known.get(index, 0)
 
-    def all(self) -> List[int]:
+    def all(self) -> list[int]:
         return [self.word(index) for index in range(WORDS)]
 
     def copy(self) -> 'Words':
@@ -40,7 +41,7 @@ class Entry:
     validated: bool
     asid: int
     gpn: int
-    permissions: Tuple[int, int, int, int]
+    permissions: tuple[int, int, int, int]
     counter: int
     sealed: Optional['Sealed'] = None
     read_tag: bytes = b''
@@ -50,7 +51,7 @@ class Entry:
         return self.sealed.tag if self.sealed is not None else self.read_tag
 
     @property
-    def words(self) -> List[int]:
+    def words(self) -> list[int]:
         """The eight words of the entry."""
         data = bytes((1, self.kind, self.vmsa, self.validated)) + self.asid.to_bytes(4, 'little') + self.gpn.to_bytes(8, 'little')
         data += bytes(most & 15 for most in self.permissions) + bytes(4) + self.counter.to_bytes(8, 'little') + self.tag
@@ -69,8 +70,8 @@ def entry_from(words: Sequence[int]) -> Optional[Entry]:
 @dataclass
 class Table:
     """The entries in use of a metadata page. `raw` has its words where they may have more than these entries."""
-    entries: Dict[int, Entry] = field(default_factory=dict)
-    raw: Optional[List[int]] = None
+    entries: dict[int, Entry] = field(default_factory=dict)
+    raw: Optional[list[int]] = None
 
     def put(self, place: int, entry: Optional[Entry]) -> None:
         if entry is None:
@@ -83,10 +84,10 @@ class Table:
     def word(self, index: int) -> int:
         return self.all()[index]
 
-    def all(self) -> List[int]:
+    def all(self) -> list[int]:
         if self.raw is not None:
             return list(self.raw)
-        made: List[int] = []
+        made: list[int] = []
         for place in range(ENTRIES):
             made += self.entries[place].words if place in self.entries else [0] * ENTRY_WORDS
         return made
@@ -95,7 +96,7 @@ class Table:
         return Table(dict(self.entries), None if self.raw is None else list(self.raw))
 
 
-def table_from(words: List[int]) -> Table:
+def table_from(words: list[int]) -> Table:
     """A metadata page by its words."""
     told = ((place, entry_from(words[ENTRY_WORDS * place:ENTRY_WORDS * (place + 1)])) for place in range(ENTRIES))
     return Table({place: entry for place, entry in told if entry is not None}, list(words))
@@ -111,10 +112,10 @@ class Sealed:
     plain: 'Content'
     frame: int
     event: int
-    made: Optional[List[int]] = None
+    made: Optional[list[int]] = None
     made_tag: Optional[bytes] = None
 
-    def all(self) -> List[int]:
+    def all(self) -> list[int]:
         if self.made is None:
             self.made = gcm.crypted(self.key, self.counter, self.plain.all())
         return self.made
@@ -138,7 +139,7 @@ Content = Union[Words, Table, Sealed]
 @dataclass
 class Memory:
     """What stands in each frame; frames that aren't named have zero words."""
-    frames: Dict[int, Content] = field(default_factory=dict)
+    frames: dict[int, Content] = field(default_factory=dict)
 
     def at(self, frame: int) -> Content:
         return self.frames.get(frame) or Words()

@@ -2,17 +2,16 @@
 from __future__ import annotations
 
 import re
-from typing import Pattern
 
 
-def pattern_of(text: str) -> Pattern[str]:
+def pattern_of(text: str) -> re.Pattern[str]:
     """The pattern that a text says; it fits whole lines."""
     parts = []
     words = text.split()
     for k, word in enumerate(words):
         space = ' ' if k else ''
         if word == '...':
-            parts.append('(?:%s[^ ]+)*' % space if k else '(?:[^ ]+(?: (?=[^ ])|$))*')
+            parts.append(f'(?:{space}[^ ]+)*' if k else '(?:[^ ]+(?: (?=[^ ])|$))*')
         else:
             before = '' if k == 1 and words[0] == '...' else space
             parts.append(before + '[^ ]*'.join(re.escape(part) for part in word.split('*')))

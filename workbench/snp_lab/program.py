@@ -8,7 +8,7 @@ import shutil
 import subprocess
 import time
 from dataclasses import dataclass
-from typing import Optional, Tuple
+from typing import Optional
 
 from .texts import Complaint
 
@@ -25,10 +25,47 @@ class Answer:
     output: str
 
     @property
-    def refused_entry(self) -> Optional[Tuple[int, int]]:
+    def refused_entry(self) -> Optional[tuple[int, int]]:
         """The entry of the schedule that names an actor that is missing or finished, and that actor."""
         found = REFUSED_ENTRY.match(self.output)
         return (int(found.group(1)), int(found.group(2))) if found else None
+
+
+class Streams:
+    """Files in memory that stand for the standard streams of one process after the other, so that a run costs little more than the
+    start of its process."""
+
+    def __init__(self) -> None:
+        self.owner = os.getpid()
+        self.files = [os.memfd_create(name) for name in ('in', 'out', 'err')]
+        self.environment = dict(os.environb)
+
+    def run(self, words: list[str], text: bytes) -> tuple[int, bytes, bytes]:
+        for file in self.files:
+            os.ftruncate(file, 0)
+        written = 0
+        while written < len(text):
+            written += os.pwrite(self.files[0], text[written:], written)
+        for file in self.files:
+            os.lseek(file, 0, os.SEEK_SET)
+        actions = [(os.POSIX_SPAWN_DUP2, file, stream) for stream, file in enumerate(self.files)]
+        process = os.posix_spawn(words[0], words, self.environment, file_actions=actions)
+        _, ended = os.waitpid(process, 0)
+        output, said = (os.pread(file, os.fstat(file).st_size, 0) for file in self.files[1:])
+        return (-os.WTERMSIG(ended) if os.WIFSIGNALED(ended) else os.WEXITSTATUS(ended)), output, said
+
+
+STREAMS: list[Streams] = []
+
+
+def spawned(words: list[str], text: bytes) -> tuple[int, bytes, bytes]:
+    """The exit status of a process (below 0 for a signal), its output, and what it said on standard error."""
+    if not hasattr(os, 'memfd_create'):
+        ended = subprocess.run(words, input=text, stdout=subprocess.PIPE, stderr=subprocess.PIPE, close_fds=False)
+        return ended.returncode, ended.stdout, ended.stderr
+    if not STREAMS or STREAMS[0].owner != os.getpid():  # a process of a pool has files of its own
+        STREAMS[:] = [Streams()]
+    return STREAMS[0].run(words, text)
 
 
 @dataclass(frozen=True)
@@ -39,17 +76,18 @@ class Program:
         return self.replay_bytes(text.encode('utf-8', 'surrogateescape'))
 
     def replay_bytes(self, text: bytes) -> Answer:
+        return self.asked(['replay'], text)
+
+    def asked(self, words: list[str], text: bytes) -> Answer:
+        """What the program answers to these command words with a text on standard input."""
         try:
-            ended = subprocess.run([self.path, 'replay'], input=text, stdout=subprocess.PIPE, stderr=subprocess.PIPE,
-                                   close_fds=False)
+            status, output, said = spawned([self.path] + words, text)
         except OSError as fault:
-            raise Complaint('the program can\'t be run: %s' % (fault.strerror or 'unknown').lower(), self.path) from None
-        output = ended.stdout.decode('utf-8', 'replace')
-        if ended.returncode < 0 or not output and ended.returncode not in (1, 5, 6, 7):
-            said = ended.stderr.decode('utf-8', 'replace').strip().split('\n')[-1]
-            raise Complaint('the program answered nothing, and ended with %d%s'
-                            % (ended.returncode, ': ' + said if said else ''), self.path)
-        return Answer(ended.returncode, output)
+            raise Complaint(f"the program can't be run: {(fault.strerror or 'unknown').lower()}", self.path) from None
+        if status < 0 or not output and status not in (1, 5, 6, 7):
+            last = said.decode('utf-8', 'replace').strip().split('\n')[-1]
+            raise Complaint(f"the program answered nothing, and ended with {status}{': ' + last if last else ''}", self.path)
+        return Answer(status, output.decode('utf-8', 'replace'))
 
     @property
     def is_unproved(self) -> bool:
@@ -76,8 +114,25 @@ def report_or_fail(program: Program, text: str, name: str) -> str:
         return answer.output
     words = answer.output.strip().split(' ')
     line = int(words[2]) if words[:2] == ['error', 'scenario'] and len(words) == 4 else None
-    raise Complaint('the program refuses this scenario with `%s`: %s' % (answer.output.strip(), refusal_words(answer.output.strip())),
-                    name, line)
+    told = schedule_words(text, name, *answer.refused_entry) if answer.refused_entry else refusal_words(answer.output.strip())
+    raise Complaint(f'the program refuses this scenario with `{answer.output.strip()}`: {told}', name, line)
+
+
+def schedule_words(text: str, name: str, entry: int, number: int) -> str:
+    """Which actor an entry of the schedule names in vain: one that isn't there, or one that has finished."""
+    from .scenario import parse
+    scenario = parse(text, name)
+    actor = scenario.actors.get(number)
+    events, at = 0, 0
+    for named, many in scenario.schedule:
+        events += min(many, max(0, entry - at)) if named == number else 0
+        at += many
+    if actor is None:
+        return f'entry {entry} of the order, counted from 0, names actor {number}, which is missing: actors 1 to {len(scenario.actors)} are there'
+    if not actor.items:
+        return f'entry {entry} of the order, counted from 0, names actor {number}, which has no item'
+    return (f'entry {entry} of the order, counted from 0, names actor {number}, which has finished: it has passed its last item after '
+            f'{events} event{"" if events == 1 else "s"}')
 
 
 def seconds_of(program: Program, text: str) -> float:

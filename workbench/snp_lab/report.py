@@ -3,8 +3,8 @@ from __future__ import annotations
 
 import re
 from dataclasses import dataclass, field
-from typing import Dict, List, Tuple
 
+from .scenario import Scenario
 from .texts import Complaint, Line, decimal_of, number_of, told_lines
 
 GOOD = ('load', 'store', 'swap', 'opaque')
@@ -23,8 +23,8 @@ class Event:
     actor: int
     item: int
     attempt: int
-    deed: Tuple[str, ...]
-    outcome: Tuple[str, ...]
+    deed: tuple[str, ...]
+    outcome: tuple[str, ...]
 
     @property
     def kind(self) -> str:
@@ -41,14 +41,14 @@ class Event:
     @property
     def rest(self) -> str:
         """The line without its number."""
-        return ' '.join(('%d %d.%d' % (self.actor, self.item, self.attempt),) + self.deed + self.outcome)
+        return ' '.join((f'{self.actor} {self.item}.{self.attempt}',) + self.deed + self.outcome)
 
     @property
     def text(self) -> str:
-        return '%d %s' % (self.number, self.rest)
+        return f'{self.number} {self.rest}'
 
     @property
-    def place(self) -> Tuple[int, int]:
+    def place(self) -> tuple[int, int]:
         """Where the deed reads or writes: a frame or a guest's page, and the word's index there."""
         found = PLACE.match(self.deed[1])
         assert found is not None
@@ -75,57 +75,67 @@ class Event:
         return bool(self.outcome) and self.outcome[0] in ('gp', 'offline', 'pf', 'npf', 'vc')
 
 
+def next_item(scenario: Scenario, event: Event) -> int:
+    """The item that an actor is at behind one of its events."""
+    if not event.outcome:
+        return event.item
+    if event.outcome[0] == 'skipped':
+        return event.item + 1 + int(event.outcome[1])
+    in_use = 'by' in event.outcome
+    return event.item if in_use and event.attempt < scenario.actors[event.actor].items[event.item].retries else event.item + 1
+
+
 @dataclass
 class Report:
     name: str
     version: int = 1
-    events: List[Event] = field(default_factory=list)
-    guests: Dict[int, Tuple[str, str]] = field(default_factory=dict)
-    lines: List[str] = field(default_factory=list)
+    events: list[Event] = field(default_factory=list)
+    guests: dict[int, tuple[str, str]] = field(default_factory=dict)
+    lines: list[str] = field(default_factory=list)
 
 
-def shaped(line: Line, deed: Tuple[str, ...]) -> None:
+def shaped(line: Line, deed: tuple[str, ...]) -> None:
     """Complains of a deed whose words don't have the shape of its kind."""
     kind = deed[0]
     places = {'npt': 1, 'gpt': 1, 'data': 1, 'host': 1}
     if kind in places and not PLACE.match(deed[1]):
-        line.fail('`%s` should be a frame or page and an index, as `4:0`' % deed[1])
+        line.fail(f'`{deed[1]}` should be a frame or page and an index, as `4:0`')
     if kind in ('lock', 'lockg', 'commit', 'commitg') and decimal_of(deed[1]) is None:
-        line.fail('`%s` should be a frame or a guest' % deed[1])
+        line.fail(f'`{deed[1]}` should be a frame or a guest')
     if kind == 'commit' and (number_of(deed[2]) is None or deed[3] not in ('4k', '2m')):
-        line.fail('`%s %s` should be a page and its size' % deed[2:4])
+        line.fail(f'`{deed[2]} {deed[3]}` should be a page and its size')
     if kind in ('gpt', 'data') and decimal_of(deed[2]) is None:
-        line.fail('`%s` should be a frame' % deed[2])
+        line.fail(f'`{deed[2]}` should be a frame')
     if kind == 'npt' and number_of(deed[2]) is None or kind == 'gpt' and deed[3] != '-' and number_of(deed[3]) is None:
-        line.fail('`%s` should be the word that was read' % deed[-1])
+        line.fail(f'`{deed[-1]}` should be the word that was read')
 
 
-def check_outcome(line: Line, outcome: Tuple[str, ...]) -> None:
+def check_outcome(line: Line, outcome: tuple[str, ...]) -> None:
     name = outcome[0]
     if name not in OUTCOMES:
-        line.fail('`%s` is no outcome that a report has' % ' '.join(outcome))
+        line.fail(f"`{' '.join(outcome)}` is no outcome that a report has")
     least = {'cas': 3, 'opaque': 1, 'store': 1, 'gp': 1, 'offline': 1, 'next': 1}.get(name, 2)
     if len(outcome) < least:
-        line.fail('the outcome `%s` is cut' % ' '.join(outcome))
+        line.fail(f"the outcome `{' '.join(outcome)}` is cut")
     if least >= 2 and number_of(outcome[1]) is None:
-        line.fail('`%s` of the outcome should be a number' % outcome[1])
+        line.fail(f'`{outcome[1]}` of the outcome should be a number')
     if name == 'rc' and outcome[2:] and (len(outcome) != 4 or outcome[2] not in ('by', 'cf') or number_of(outcome[3]) is None):
-        line.fail('`%s` should be a status, and may end with `by ACTOR` or `cf 0`' % ' '.join(outcome))
+        line.fail(f"`{' '.join(outcome)}` should be a status, and may end with `by ACTOR` or `cf 0`")
 
 
 def read_event(line: Line, expected: int) -> Event:
     found = HEAD.match(line.text)
     if found is None:
-        line.fail('this is no line of a report: `%s`' % line.text[:60])
+        line.fail(f'this is no line of a report: `{line.text[:60]}`')
     number, actor, item, attempt = (int(found.group(k)) for k in range(1, 5))
     if number != expected:
-        line.fail('this event should have the number %d, and has %d' % (expected, number))
+        line.fail(f'this event should have the number {expected}, and has {number}')
     words = tuple(found.group(5).split(' '))
     many = DEEDS.get(words[0])
     if many is None:
-        line.fail('`%s` is no deed that a report has' % words[0])
+        line.fail(f'`{words[0]}` is no deed that a report has')
     if len(words) < many:
-        line.fail('a `%s` event has %d words, and this one is cut' % (words[0], many))
+        line.fail(f'a `{words[0]}` event has {many} words, and this one is cut')
     shaped(line, words[:many])
     if words[many:]:
         check_outcome(line, words[many:])
@@ -143,9 +153,9 @@ def parse(text: str, name: str) -> Report:
             line.fail('this line stands after the report\'s `end`')
         if len(report.lines) == 1:
             if words[0] == 'error':
-                line.fail('this is no report but the program\'s refusal `%s`' % line.text)
+                line.fail(f"this is no report but the program's refusal `{line.text}`")
             if words[0] != 'snp-report' or len(words) != 2 or words[1] not in ('1', '2'):
-                line.fail('a report begins with `snp-report 1` or `snp-report 2`, and this text with `%s`' % line.text[:60])
+                line.fail(f'a report begins with `snp-report 1` or `snp-report 2`, and this text with `{line.text[:60]}`')
             report.version = int(words[1])
         elif words[0] == 'order':
             pass
@@ -153,8 +163,8 @@ def parse(text: str, name: str) -> Report:
             report.guests[int(words[1])] = (words[2], words[3])
         elif words[0] == 'end':
             ended = True
-            if line.text != 'end %d' % len(report.events):
-                line.fail('the report ends with `%s`, and has %d events: a part of it is missing' % (line.text, len(report.events)))
+            if line.text != f'end {len(report.events)}':
+                line.fail(f'the report ends with `{line.text}`, and has {len(report.events)} events: a part of it is missing')
         else:
             report.events.append(read_event(line, len(report.events)))
     if not ended:

@@ -1,43 +1,53 @@
 """Runs of a scenario under chosen schedules, and which other schedules are worth a run.
 
-A search is a tree: a node is a schedule's beginning, and each actor that isn't finished there makes a branch. Two events
-that touch nothing in common, or only look at it, commute: both orders give the same outcomes. So an actor that was tried at a
-node sleeps in the branches of the others, until an event comes that its own next event doesn't commute with (sleep sets). And
-an event that commutes with all that the others' scripts may still do goes first, with no branch beside it (persistent sets of
-one actor). Of interleavings that differ by commuting events alone one is run.
+A search goes through states: behind each of them every actor that isn't finished makes a branch, and what comes behind equal
+states is run once (`states` says what makes them equal). Two events that touch nothing in common, or only look at it, commute: both
+orders give the same outcomes. So where an actor's next event commutes with all that a run has had before it, the branch that has
+it first is known without a run; and an event that commutes with all that the others' scripts may still do goes first, with
+no branch beside it (persistent sets of one actor). The program is asked for the other branches alone.
 """
 from __future__ import annotations
 
 import random
+import re
 from collections import deque
 from dataclasses import dataclass, field
-from typing import Deque, Dict, List, Optional, Set, Tuple
+from typing import Optional
 
-from . import report
+from .before import Key
 from .codes import refusal_words
 from .program import Program
-from .report import Event
+from .report import Event, next_item, read_event
 from .scenario import ORDER_LIMIT, Scenario, order_lines, runs_of
-from .texts import Complaint
-from .touches import EVERYTHING, Bound, Touch, assigned_frames, bounds_of, touch_of
+from .states import Names, State, Step
+from .texts import Complaint, Line
+from .touches import EVERYTHING, Bound, assigned_frames, bounds_of, touch_of
 
 EVENTS_OF_ATTEMPT = 32
 
 
 @dataclass(frozen=True)
-class Node:
-    """A branch that is still to be tried: a schedule's beginning, the actor that then comes, and who sleeps meanwhile."""
+class Branch:
+    """What is still to be tried: a schedule's beginning, and the actor that then comes. `state` is the state there, `key` its key, and
+    `steps` is the whole run where it is known without asking the program."""
     before: bytes
     actor: Optional[int] = None
-    asleep: Tuple[Tuple[int, Touch], ...] = ()
+    key: bytes = b''
+    state: Optional[State] = None
+    steps: Optional[list[Step]] = None
 
 
 @dataclass
 class Played:
-    """A complete run: its schedule and events."""
+    """A complete run: its schedule, its events, and the lines of its report behind them."""
     schedule: bytes
-    events: List[Event]
-    lines: List[str]
+    steps: list[Step]
+    ending: list[str]
+    lines: list[str]
+
+    @property
+    def events(self) -> list[Event]:
+        return [step.event for step in self.steps]
 
 
 @dataclass
@@ -45,166 +55,222 @@ class Search:
     """What all runs of a search share."""
     program: Program
     scenario: Scenario
-    head: List[str]
+    head: list[str]
     reduce: bool = True
-    totals: Dict[int, int] = field(default_factory=dict)
-    bounds: Dict[int, List[Bound]] = field(default_factory=dict)
-    assigned: Set[int] = field(default_factory=set)
+    keeps_wholes: bool = False
+    patterns: list[re.Pattern[str]] = field(default_factory=list)
+    waits: dict[Key, list[Key]] = field(default_factory=dict)
+    totals: dict[int, int] = field(default_factory=dict)
+    bounds: dict[int, list[Bound]] = field(default_factory=dict)
+    assigned: set[int] = field(default_factory=set)
     has_firmware: bool = False
+    known: dict[str, Step] = field(default_factory=dict)
+    names: Names = field(default_factory=Names)
+    tried: dict[bytes, set[int]] = field(default_factory=dict)
 
     def __post_init__(self) -> None:
         self.bounds = bounds_of(self.scenario)
         self.assigned = assigned_frames(self.scenario)
         self.has_firmware = any(actor.role == 'fw' for actor in self.scenario.actors.values())
 
-    def ask(self, schedule: bytes) -> Tuple[Optional[report.Report], int]:
-        """The report of a schedule, or the entry of it that names a finished actor."""
-        text = '\n'.join(self.head + order_lines(runs_of(list(schedule))) + ['end']) + '\n'
-        answer = self.program.replay(text)
+    # Asking
+
+    def text_of(self, schedule: bytes) -> str:
+        return '\n'.join(self.head + order_lines(runs_of(list(schedule))) + ['end']) + '\n'
+
+    def ask(self, schedule: bytes) -> tuple[Optional[Played], int]:
+        """The run of a schedule, or the entry of it that names a finished actor."""
+        answer = self.program.replay(self.text_of(schedule))
         if answer.status == 0:
-            return report.parse(answer.output, 'the report'), -1
+            return self.played(schedule, answer.output), -1
         refused = answer.refused_entry
         if refused is None:
-            raise Complaint('the program refuses this scenario with `%s`: %s' % (
-                answer.output.strip(), refusal_words(answer.output.strip())), self.scenario.name)
+            said = answer.output.strip()
+            raise Complaint(f'the program refuses this scenario with `{said}`: {refusal_words(said)}', self.scenario.name)
         return None, refused[0]
 
-    def next_item(self, event: Event) -> int:
-        """The item that an actor is at behind one of its events."""
-        if not event.outcome:
-            return event.item
-        if event.outcome[0] == 'skipped':
-            return event.item + 1 + int(event.outcome[1])
-        in_use = 'by' in event.outcome
-        return event.item if in_use and event.attempt < self.scenario.actors[event.actor].items[event.item].retries else event.item + 1
+    def played(self, schedule: bytes, output: str) -> Played:
+        """A report, each of whose lines is read once in a search."""
+        lines = output.split('\n')[:-1]
+        steps = []
+        for place in range(1, len(schedule) + 1):
+            line = lines[place].partition(' ')[2]
+            steps.append(self.known.get(line) or self.read_step(line))
+        return Played(schedule, steps, lines[len(schedule) + 1:], lines)
 
-    def is_finished(self, event: Event) -> bool:
-        return self.next_item(event) >= len(self.scenario.actors[event.actor].items)
+    def read_step(self, line: str) -> Step:
+        event = read_event(Line('the report', 0, '0 ' + line), 0)
+        likes = sum(1 << k for k, pattern in enumerate(self.patterns) if pattern.match('K ' + line))
+        touch = touch_of(self.scenario, event, self.has_firmware) if self.reduce else EVERYTHING
+        self.known[line] = made = Step(event, line, touch, next_item(self.scenario, event), likes)
+        return made
+
+    def is_finished(self, step: Step) -> bool:
+        return step.next_item >= len(self.scenario.actors[step.event.actor].items)
 
     def bound(self, actor: int) -> int:
         """More events than an actor's script can have."""
         tries = sum(item.retries + 1 for item in self.scenario.actors[actor].items)
         return min(tries * EVENTS_OF_ATTEMPT, ORDER_LIMIT)
 
-    def unfinished(self, events: List[Event]) -> List[int]:
-        last = {event.actor: event for event in events}
+    def unfinished(self, steps: list[Step]) -> list[int]:
+        last = {step.event.actor: step for step in steps}
         return [actor for actor, one in self.scenario.actors.items()
                 if one.items and (actor not in last or not self.is_finished(last[actor]))]
 
-    def complete(self, before: bytes, awake_first: List[int]) -> Played:
+    # Complete runs
+
+    def complete(self, before: bytes, first: list[int]) -> Played:
         """A run of a schedule's beginning, with each actor then run to its end in this order."""
-        counts = {actor: max(0, self.totals.get(actor, self.bound(actor)) - before.count(actor)) for actor in awake_first}
-        for _ in range(self.patience):
-            schedule = before + b''.join(bytes([actor]) * counts[actor] for actor in awake_first)
-            found, refused = self.ask(schedule[:ORDER_LIMIT])
-            if found is None:
-                if refused < len(before):
-                    raise Complaint('entry %d of the order names an actor that is missing or finished' % refused, self.scenario.name)
-                counts[schedule[refused]] = schedule[len(before):refused].count(schedule[refused])
-                continue
-            if len(schedule) > ORDER_LIMIT:
-                raise Complaint('a whole run has more than %d events, which `snp` doesn\'t replay' % ORDER_LIMIT, self.scenario.name)
-            left = self.unfinished(found.events)
-            if not left:
-                for event in found.events:
-                    self.totals[event.actor] = 0
-                for actor in schedule:
-                    self.totals[actor] = self.totals.get(actor, 0) + 1
-                return Played(schedule, found.events, found.lines)
-            counts[left[0]] = self.bound(left[0])
-        raise self.lost()
+        behind = b''.join(bytes([actor]) * self.guess(before, actor) for actor in first)
+        return self.mended(before, behind)
 
     def shuffled(self, before: bytes, source: random.Random) -> Played:
         """A run of some interleaving behind a schedule's beginning."""
-        counts = {actor: max(0, self.totals.get(actor, self.bound(actor)) - before.count(actor)) for actor in self.scenario.actors}
-        behind = [actor for actor, many in counts.items() for _ in range(many)]
+        behind = [actor for actor in self.scenario.actors for _ in range(self.guess(before, actor))]
         source.shuffle(behind)
+        return self.mended(before, bytes(behind))
+
+    def guess(self, before: bytes, actor: int) -> int:
+        return max(0, self.totals.get(actor, self.bound(actor)) - before.count(actor)) if self.scenario.actors[actor].items else 0
+
+    def mended(self, before: bytes, behind: bytes) -> Played:
+        """A complete run near a schedule: what names a finished actor is left out, what is missing is put behind, and an item that
+        has to wait lets the other one come first."""
+        schedule = before + behind
         for _ in range(self.patience):
-            schedule = before + bytes(behind)
             found, refused = self.ask(schedule[:ORDER_LIMIT])
             if found is None:
+                if refused < len(before):
+                    raise Complaint(f'entry {refused} of the order names an actor that is missing or finished', self.scenario.name)
                 gone = schedule[refused]
-                behind = behind[:refused - len(before)] + [actor for actor in behind[refused - len(before):] if actor != gone]
+                schedule = schedule[:refused] + bytes(actor for actor in schedule[refused:] if actor != gone)
                 continue
-            left = self.unfinished(found.events)
+            if len(schedule) > ORDER_LIMIT:
+                raise Complaint(f"a whole run has more than {ORDER_LIMIT} events, which `snp` doesn't replay", self.scenario.name)
+            broken = self.too_early(found, len(before))
+            if broken is not None:
+                place, needed = broken
+                rest = schedule[place:]
+                many = rest.count(needed) or self.bound(needed)
+                schedule = schedule[:place] + bytes([needed]) * many + bytes(actor for actor in rest if actor != needed)
+                continue
+            left = self.unfinished(found.steps)
             if not left:
-                return Played(schedule, found.events, found.lines)
-            behind += [left[0]] * self.bound(left[0])
-        raise self.lost()
+                self.totals.update((actor, schedule.count(actor)) for actor in self.scenario.actors)
+                return found
+            schedule += bytes([left[0]]) * self.bound(left[0])
+        raise Complaint("the scripts don't end where the reports say, so this scenario can't be explored", self.scenario.name)
+
+    def too_early(self, found: Played, start: int) -> Optional[tuple[int, int]]:
+        """The first event that begins an item which has to wait, and the actor whose item must be done first."""
+        if not self.waits:
+            return None
+        items = {actor: 0 for actor in self.scenario.actors}
+        for place, step in enumerate(found.steps):
+            event = step.event
+            if place >= start:
+                for other, item in self.waits.get((event.actor, event.item), []):
+                    if items[other] <= item:
+                        return place, other
+            items[event.actor] = step.next_item
+        return None
 
     @property
     def patience(self) -> int:
         """How often a schedule is mended; each actor's count is wrong a few times at most."""
-        return 16 * len(self.scenario.actors) + 16
+        return 16 * len(self.scenario.actors) + 16 + 4 * len(self.waits) * len(self.scenario.actors)
 
-    def lost(self) -> Complaint:
-        return Complaint('the scripts don\'t end where the reports say, so this scenario can\'t be explored', self.scenario.name)
+    # The search
 
-    def touch(self, event: Event) -> Touch:
-        return touch_of(self.scenario, event, self.has_firmware) if self.reduce else EVERYTHING
-
-    def goes_first(self, event: Event, items: Dict[int, int]) -> bool:
+    def goes_first(self, step: Step, items: dict[int, int]) -> bool:
         """Whether an event commutes with all that the other actors may still do, each from the item on that it is at."""
-        touch = self.touch(event)
-        return self.reduce and all(self.bounds[actor][min(item, len(self.bounds[actor]) - 1)].commutes(touch, self.assigned)
-                                   for actor, item in items.items() if actor != event.actor)
+        return self.reduce and all(self.bounds[actor][min(item, len(self.bounds[actor]) - 1)].commutes(step.touch, self.assigned)
+                                   for actor, item in items.items() if actor != step.event.actor)
 
-    def visit(self, node: Node) -> Tuple[Optional[Played], List[Node]]:
-        """Runs a branch to its end; the branches that are to be tried besides. There is no run where it only repeats another."""
-        asleep = dict(node.asleep)
-        before = node.before if node.actor is None else node.before + bytes([node.actor])
+    def is_tried(self, branch: Branch) -> bool:
+        return branch.actor in self.tried.get(branch.key, ())
+
+    def run(self, branch: Branch) -> Played:
+        """Asks the program for a branch, run to its end."""
         everyone = sorted(self.scenario.actors)
-        awake = [actor for actor in everyone if actor not in asleep] + [actor for actor in everyone if actor in asleep]
-        if node.actor is not None:
-            awake = [node.actor] + [actor for actor in awake if actor != node.actor]
-        played = self.complete(before, awake)
-        path = Path(self, played.events[len(node.before):], played.events[:len(node.before)], node.before)
-        branches: List[Node] = []
+        if branch.actor is None:
+            return self.complete(branch.before, everyone)
+        return self.complete(branch.before + bytes([branch.actor]), [branch.actor] + [one for one in everyone if one != branch.actor])
+
+    def walk(self, branch: Branch, steps: list[Step]) -> list[Branch]:
+        """Goes through a run behind a branch; the branches that are to be tried besides."""
+        path = Path(self, steps, len(branch.before), branch.state)
+        made: list[Branch] = []
+        forced = branch.actor
         while path.left:
-            event, is_alone = path.next_event(forced=node.actor is not None and len(path.schedule) == len(node.before))
-            open_ones = [actor for actor in path.unfinished() if actor not in asleep and actor != event.actor]
-            if event.actor in asleep:  # from here on the run repeats another; whoever woke up meanwhile goes on in its stead
-                if open_ones and not is_alone:
-                    branches.append(Node(bytes(path.schedule), open_ones[0], tuple(asleep.items())))
-                return None, branches
-            touch = self.touch(event)
-            if open_ones and not is_alone:
-                branches.append(Node(bytes(path.schedule), open_ones[0], tuple(asleep.items()) + ((event.actor, touch),)))
-            asleep = {actor: other for actor, other in asleep.items() if other.commutes(touch)}
-            path.take(event)
-        return played, branches
+            step, is_alone = path.next_step(forced)
+            key = path.state.key() if self.reduce else bytes(path.schedule)
+            tried = self.tried.get(key)
+            if tried is None:
+                self.tried[key] = {step.event.actor}
+                others = [] if is_alone else [actor for actor in path.enabled() if actor != step.event.actor]
+                state = path.state.copy() if others else None
+                made += [Branch(bytes(path.schedule), actor, key, state, path.with_first(actor)) for actor in others]
+            elif step.event.actor in tried:
+                break  # all that comes behind this was tried, or waits to be
+            else:
+                tried.add(step.event.actor)
+            path.take(step)
+            forced = None
+        return made
 
 
 class Path:
     """The events of a run one after the other, where one that commutes with all that may come goes before its place."""
 
-    def __init__(self, search: Search, events: List[Event], before: List[Event], schedule: bytes) -> None:
+    def __init__(self, search: Search, steps: list[Step], start: int, state: Optional[State]) -> None:
         self.search = search
-        self.schedule = bytearray(schedule)
-        self.left: Deque[Event] = deque(events)
-        self.own: Dict[int, Deque[Event]] = {actor: deque() for actor in search.scenario.actors}
-        for event in events:
-            self.own[event.actor].append(event)
-        self.taken: Set[int] = set()
-        self.items: Dict[int, int] = {actor: 0 for actor in search.scenario.actors}
-        for event in before:
-            self.items[event.actor] = search.next_item(event)
+        self.taken = list(steps[:start])
+        self.schedule = bytearray(step.event.actor for step in self.taken)
+        self.left: deque[Step] = deque(steps[start:])
+        self.own: dict[int, deque[Step]] = {actor: deque() for actor in search.scenario.actors}
+        for step in self.left:
+            self.own[step.event.actor].append(step)
+        if state is not None:
+            self.state = state.copy()
+            return
+        self.state = State(search.scenario, search.names, search.keeps_wholes, search.reduce)
+        for step in self.taken:
+            self.state.take(step)
 
-    def next_event(self, forced: bool) -> Tuple[Event, bool]:
+    def may_go(self, actor: int) -> bool:
+        return self.state.may_go(actor, self.search.waits)
+
+    def next_step(self, forced: Optional[int]) -> tuple[Step, bool]:
         """The next event, and whether it goes first, so that no other one has to be tried in its place."""
-        if not forced:
-            for queue in self.own.values():
-                if queue and self.search.goes_first(queue[0], self.items):
-                    return queue[0], True
+        if forced is not None:
+            return self.own[forced][0], False
+        for actor, queue in self.own.items():
+            if queue and self.may_go(actor) and self.search.goes_first(queue[0], self.state.items):
+                return queue[0], True
         return self.left[0], False
 
-    def unfinished(self) -> List[int]:
-        return [actor for actor, queue in self.own.items() if queue]
+    def enabled(self) -> list[int]:
+        return [actor for actor, queue in self.own.items() if queue and self.may_go(actor)]
 
-    def take(self, event: Event) -> None:
-        self.schedule.append(event.actor)
-        self.own[event.actor].popleft()
-        self.items[event.actor] = self.search.next_item(event)
-        self.taken.add(event.number)
-        while self.left and self.left[0].number in self.taken:
-            self.left.popleft()
+    def with_first(self, actor: int) -> Optional[list[Step]]:
+        """The run in which an actor's next event comes here, where it commutes with all that came before it."""
+        step = self.own[actor][0]
+        rest: list[Step] = []
+        is_before = True
+        for other in self.left:
+            if other is step and is_before:
+                is_before = False
+                continue
+            if is_before and not step.touch.commutes(other.touch):
+                return None
+            rest.append(other)
+        return self.taken + [step] + rest
+
+    def take(self, step: Step) -> None:
+        self.schedule.append(step.event.actor)
+        self.own[step.event.actor].popleft()
+        self.left.remove(step)
+        self.taken.append(step)
+        self.state.take(step)

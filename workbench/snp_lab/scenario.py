@@ -1,28 +1,42 @@
 """Scenarios as `snp` reads them.
 
-The reader is here to understand a scenario, and `snp` alone decides what is one: it complains of what it can't follow, and
-leaves ranges, alignment and limits to the program.
+The reader follows the rules of docs/FORMATS.md, so that it can say of a text that `snp` refuses what would mend it; `snp` alone
+decides what is a scenario.
 """
 from __future__ import annotations
 
+import difflib
+from collections.abc import Callable
 from dataclasses import dataclass, field
-from typing import Dict, List, Optional, Tuple
+from typing import Optional
 
-from .texts import Complaint, Line, need_number, number_of, told_lines
+from .texts import Complaint, Line, hex_of, need_number, number_of, told_lines
 
 ORDER_WORDS = 16
 ORDER_LIMIT = 262144
+MOST_REGIONS, MOST_GUESTS, MOST_ACTORS, MOST_ATTEMPTS = 16, 8, 32, 8192
 EXCHANGES = ('swap', 'cas', 'xor')
 WRITES = ('store',) + EXCHANGES
 
-# Operands of each item behind its word; the last words of some may be `retry N`.
-OPERANDS = {
-    'load': 1, 'store': 2, 'swap': 2, 'cas': 3, 'xor': 2,
-    'pvalidate': 3, 'rmpadjust': 5, 'rmpupdate': 6, 'psmash': 1,
-    'gctx_create': 2, 'activate': 2, 'launch_start': 1, 'launch_update': 7, 'launch_finish': 1, 'md_init': 1,
-    'page_move': 3, 'swap_out': 5, 'swap_in': 5, 'page_reclaim': 1,
-    'md_out': 5, 'md_in': 5, 'md_root_out': 3, 'md_root_in': 3,
+# The form of each item behind its word, and the least and most of each operand; `A` is an address, a multiple of 8, and the last
+# words of some items may be `retry N`.
+ANY = (1 << 64) - 1
+GUEST, FLAG, PERMISSIONS, GPN, ENTRY = (1, 8), (0, 1), (0, 15), (0, (1 << 36) - 1), (0, 63)
+FORMS: dict[str, tuple[str, dict[str, tuple[int, int]]]] = {
+    'load': ('A', {}), 'store': ('A V', {}), 'swap': ('A V', {}), 'cas': ('A OLD NEW', {}), 'xor': ('A V', {}),
+    'pvalidate': ('VA S B', {'B': FLAG}), 'rmpadjust': ('VA S T M W', {'T': (0, 255), 'M': (0, 255), 'W': FLAG}),
+    'rmpupdate': ('F S B ASID P I', {'B': FLAG, 'ASID': (0, 1023), 'P': GPN, 'I': FLAG}), 'psmash': ('F', {}),
+    'gctx_create': ('G F', {'G': GUEST}), 'activate': ('G ASID', {'G': GUEST, 'ASID': (0, 1023)}), 'launch_start': ('G', {'G': GUEST}),
+    'launch_update': ('G F T I X Y Z', {'G': GUEST, 'T': (0, 255), 'I': FLAG, 'X': PERMISSIONS, 'Y': PERMISSIONS, 'Z': PERMISSIONS}),
+    'launch_finish': ('G', {'G': GUEST}), 'md_init': ('F', {}), 'page_move': ('G SRC DST', {'G': GUEST}),
+    'swap_out': ('G SRC DST MD E', {'G': GUEST, 'E': ENTRY}), 'swap_in': ('G SRC DST MD E', {'G': GUEST, 'E': ENTRY}),
+    'page_reclaim': ('F', {}), 'md_out': ('G SRC DST MD E', {'G': GUEST, 'E': ENTRY}), 'md_in': ('G SRC DST MD E', {'G': GUEST, 'E': ENTRY}),
+    'md_root_out': ('G SRC DST', {'G': GUEST}), 'md_root_in': ('G SRC DST', {'G': GUEST}),
 }
+OPERANDS = {word: len(form.split()) for word, (form, _) in FORMS.items()}
+# The parts of a text in their order; items belong to their actors.
+SECTIONS = {'snp': 0, 'regions': 1, 'guest': 2, 'page': 3, 'word': 4, 'actor': 5, 'order': 6, 'end': 7}
+SECTION_NAMES = ('`snp`', '`regions`', '`guest` lines', '`page` lines', '`word` lines', 'actors with their items', '`order` lines', '`end`')
 # Which operands of an item, counted from 1, are frames.
 FRAMES_OF = {'rmpupdate': (1,), 'psmash': (1,), 'gctx_create': (2,), 'launch_update': (2,), 'md_init': (1,), 'page_move': (2, 3),
              'swap_out': (2, 3, 4), 'swap_in': (2, 3, 4), 'page_reclaim': (1,), 'md_out': (2, 3, 4), 'md_in': (2, 3, 4),
@@ -51,7 +65,7 @@ class Page:
     gpn: int
     is_large: bool
     is_valid: bool
-    permissions: Tuple[int, int, int, int]
+    permissions: tuple[int, int, int, int]
 
 
 @dataclass(frozen=True)
@@ -59,7 +73,7 @@ class Item:
     """A line of a script: its text, its first word, and its operands as numbers (sizes as 4 and 2)."""
     text: str
     word: str
-    operands: Tuple[int, ...]
+    operands: tuple[int, ...]
     retries: int = 0
     test: str = ''
 
@@ -83,7 +97,7 @@ class Actor:
     table: int = 0
     paging: str = 'flat'
     first_page: int = 0
-    items: List[Item] = field(default_factory=list)
+    items: list[Item] = field(default_factory=list)
 
     @property
     def title(self) -> str:
@@ -92,7 +106,7 @@ class Actor:
             return 'processor of the hypervisor'
         if self.role == 'fw':
             return 'firmware'
-        return 'processor of guest %d, VMPL%d' % (self.guest, self.vmpl)
+        return f'processor of guest {self.guest}, VMPL{self.vmpl}'
 
 
 @dataclass
@@ -100,11 +114,11 @@ class Scenario:
     name: str
     version: int = 1
     regions: int = 0
-    guests: Dict[int, Guest] = field(default_factory=dict)
-    pages: List[Page] = field(default_factory=list)
-    words: Dict[Tuple[int, int], int] = field(default_factory=dict)
-    actors: Dict[int, Actor] = field(default_factory=dict)
-    schedule: List[Tuple[int, int]] = field(default_factory=list)
+    guests: dict[int, Guest] = field(default_factory=dict)
+    pages: list[Page] = field(default_factory=list)
+    words: dict[tuple[int, int], int] = field(default_factory=dict)
+    actors: dict[int, Actor] = field(default_factory=dict)
+    schedule: list[tuple[int, int]] = field(default_factory=list)
 
     @property
     def frames(self) -> int:
@@ -114,165 +128,269 @@ class Scenario:
 def fixed(line: Line, place: int, *choices: str) -> str:
     word = line.words[place]
     if word not in choices:
-        line.fail('word %d should be %s, and is `%s`' % (place + 1, ' or '.join('`%s`' % c for c in choices), word))
+        line.fail(f"word {place + 1} should be {' or '.join(f'`{choice}`' for choice in choices)}, and is `{word}`")
     return word
 
 
-def count(line: Line, *counts: int) -> None:
-    if len(line.words) not in counts:
-        line.fail('a `%s` line has %s words, and this one has %d'
-                  % (line.words[0], ' or '.join(map(str, counts)), len(line.words)))
+def count(line: Line, form: str) -> None:
+    """Complains of a line that has another number of words than its form."""
+    if len(line.words) != len(form.split()):
+        line.fail(f'`{form}` has {len(form.split())} words, and this line has {len(line.words)}')
 
 
-def read_guest(line: Line, scenario: Scenario) -> None:
-    count(line, 9)
-    words = line.words
-    kind = fixed(line, 2, 'opened', 'new')
-    fixed(line, 3, 'asid')
-    fixed(line, 5, 'iv')
-    fixed(line, 7, 'key')
-    number = need_number(line, words[1], 'the guest')
-    if number != len(scenario.guests) + 1:
-        line.fail('guests are numbered from 1 on: this one should be %d' % (len(scenario.guests) + 1))
-    if len(words[8]) != 64 or set(words[8]) - set('0123456789abcdef'):
-        line.fail('a key is 64 lower-case hex digits')
-    asid, counter = need_number(line, words[4], 'the ASID', 1, 1023), need_number(line, words[6], 'the counter')
-    scenario.guests[number] = Guest(number, asid, kind == 'opened', counter, bytes.fromhex(words[8]))
+def close_word(word: str, others: list[str]) -> str:
+    """A question behind a word that is nearly another one."""
+    near = difflib.get_close_matches(word, others, 1, 0.75)
+    return f'; is it `{near[0]}`?' if near else ''
 
 
-def read_page(line: Line, scenario: Scenario) -> None:
-    count(line, 11)
-    words = line.words
-    fixed(line, 2, 'of')
-    fixed(line, 4, 'at')
-    size = fixed(line, 6, '4k', '2m')
-    valid = fixed(line, 7, 'valid', 'invalid')
-    guest = need_number(line, words[3], 'the guest')
-    if guest not in scenario.guests:
-        line.fail('guest %d isn\'t declared' % guest)
-    most = [need_number(line, word, 'the permissions', 0, 15) for word in words[8:]]
-    frame = need_number(line, words[1], 'the frame', 0, scenario.frames - 1)
-    gpn = need_number(line, words[5], 'the guest page number', 0, (1 << 36) - 1)
-    scenario.pages.append(Page(frame, guest, gpn, size == '2m', valid == 'valid', (15, most[0], most[1], most[2])))
+@dataclass
+class Reader:
+    """Reads a text line by line, and remembers where what may stand once was said."""
+    scenario: Scenario
+    actor: Optional[Actor] = None
+    section: int = -1
+    section_line: int = 0
+    asids: dict[int, int] = field(default_factory=dict)
+    owners: list[tuple[range, int]] = field(default_factory=list)
+    gpns: list[tuple[int, range, int]] = field(default_factory=list)
+    attempts: int = 0
 
+    def read(self, line: Line) -> None:
+        first = line.words[0]
+        if any(word.startswith('#') for word in line.words):
+            line.fail('a comment stands on a line of its own: `#` begins none behind other words')
+        self.check_section(line, first)
+        if first in READERS:
+            READERS[first](self, line)
+        elif self.actor is None:
+            known = first in FORMS or first == 'skip'
+            what = (f'`{first}` is an item, and no `actor` line stands above it' if known else
+                    f'`{first}` begins no line of a scenario{close_word(first, list(SECTIONS) + list(FORMS))}')
+            line.fail(what)
+        else:
+            self.add_item(line)
 
-def read_word(line: Line, scenario: Scenario) -> None:
-    count(line, 4)
-    frame = need_number(line, line.words[1], 'the frame', 0, scenario.frames - 1)
-    index = need_number(line, line.words[2], 'the word\'s place', 0, 511)
-    scenario.words[frame, index] = need_number(line, line.words[3], 'the word')
+    def check_section(self, line: Line, first: str) -> None:
+        """Complains of a line whose part of the text is over, or hasn't begun."""
+        section = SECTIONS.get(first, SECTIONS['actor'] if self.actor is not None else self.section)
+        if self.section < 0 and first != 'snp':
+            line.fail(f'the first line is `snp 1` (or `snp 2`), and it is missing: this line is `{line.text[:60]}`')
+        if self.section == 0 and first != 'regions':
+            line.fail(f'the second line is `regions N`, the size of memory in parts of 512 frames, and this line is `{line.text[:60]}`')
+        if section < self.section:
+            line.fail(f'{SECTION_NAMES[section]} come before {SECTION_NAMES[self.section]}, which begin in line {self.section_line}')
+        if section == self.section and first in ('snp', 'regions'):
+            line.fail(f'`{first}` stands once, and line {self.section_line} has it already')
+        if first in SECTIONS and section > self.section:
+            self.section, self.section_line = section, line.number
 
+    def read_snp(self, line: Line) -> None:
+        count(line, 'snp V')
+        self.scenario.version = int(fixed(line, 1, '1', '2'))
 
-def read_actor(line: Line, scenario: Scenario) -> Actor:
-    words = line.words
-    if len(words) < 3:
-        line.fail('an `actor` line has its number and its role')
-    number = need_number(line, words[1], 'the actor')
-    if number != len(scenario.actors) + 1:
-        line.fail('actors are numbered from 1 on: this one should be %d' % (len(scenario.actors) + 1))
-    role = fixed(line, 2, 'cpu', 'host', 'fw')
-    actor = Actor(number, role)
-    if role != 'cpu':
-        count(line, 3)
-    else:
-        count(line, 9, 10)
-        fixed(line, 4, 'vmpl')
-        fixed(line, 6, 'npt')
-        actor.paging = fixed(line, 8, *(('flat',) if len(words) == 9 else ('gcr3', 'la57')))
+    def read_regions(self, line: Line) -> None:
+        count(line, 'regions N')
+        self.scenario.regions = need_number(line, line.words[1], 'the count of regions', 1, MOST_REGIONS)
+
+    def read_guest(self, line: Line) -> None:
+        count(line, 'guest G opened asid A iv N key K')
+        words, guests = line.words, self.scenario.guests
+        number = need_number(line, words[1], 'the guest')
+        if number != len(guests) + 1:
+            line.fail(f'guests are numbered from 1 on: this one should be {len(guests) + 1}')
+        kind = fixed(line, 2, 'opened', 'new')
+        fixed(line, 3, 'asid')
+        asid = need_number(line, words[4], 'the ASID', 1, 1023)
+        fixed(line, 5, 'iv')
+        counter = need_number(line, words[6], 'the counter')
+        fixed(line, 7, 'key')
+        if len(words[8]) != 64 or set(words[8]) - set('0123456789abcdef'):
+            line.fail(f'a key is 64 lower-case hex digits, and this one has {len(words[8])} characters')
+        if asid in self.asids:
+            line.fail(f'the ASID {asid} stands twice: line {self.asids[asid]} gives it to another guest')
+        if len(guests) == MOST_GUESTS:
+            line.fail(f'a scenario has at most {MOST_GUESTS} guests')
+        self.asids[asid] = line.number
+        guests[number] = Guest(number, asid, kind == 'opened', counter, bytes.fromhex(words[8]))
+
+    def read_page(self, line: Line) -> None:
+        count(line, 'page F of G at P S valid X Y Z')
+        words, scenario = line.words, self.scenario
+        size = 512 if words[6] == '2m' else 1
+        frame = self.frame(line, words[1], 'the frame')
+        fixed(line, 2, 'of')
+        guest = need_number(line, words[3], 'the guest')
+        fixed(line, 4, 'at')
+        gpn = need_number(line, words[5], 'the guest page number', 0, (1 << 36) - 1)
+        fixed(line, 6, '4k', '2m')
+        if frame % size or gpn % size:
+            line.fail(f"a page of 2 MB begins at multiples of 512, and {'the frame' if frame % size else 'the page number'} is none")
+        valid = fixed(line, 7, 'valid', 'invalid')
+        most = [need_number(line, word, 'the permissions', 0, 15) for word in words[8:]]
+        if guest not in scenario.guests:
+            line.fail(self.undeclared(guest))
+        if not scenario.guests[guest].is_opened:
+            line.fail(f'guest {guest} is `new`: it has no pages until it is launched, and only one that is `opened` has `page` lines')
+        for frames, other in self.owners:
+            if frames.start < frame + size and frame < frames.stop:
+                line.fail(f'frame {max(frame, frames.start)} stands twice: it is of the page in line {other} already')
+        for owner, gpns, other in self.gpns:
+            if owner == guest and gpns.start < gpn + size and gpn < gpns.stop:
+                line.fail(f'page {hex_of(max(gpn, gpns.start))} of guest {guest} stands twice: line {other} has it already')
+        self.owners.append((range(frame, frame + size), line.number))
+        self.gpns.append((guest, range(gpn, gpn + size), line.number))
+        scenario.pages.append(Page(frame, guest, gpn, size == 512, valid == 'valid', (15, most[0], most[1], most[2])))
+
+    def undeclared(self, guest: int) -> str:
+        many = len(self.scenario.guests)
+        return f"guest {guest} isn't declared: " + (f'guests 1 to {many} are' if many else 'there is no `guest` line')
+
+    def frame(self, line: Line, word: str, what: str) -> int:
+        value = need_number(line, word, what)
+        if value >= self.scenario.frames:
+            line.fail(f'{what} {word} is outside memory, which has frames 0 to {self.scenario.frames - 1}')
+        return value
+
+    def read_word(self, line: Line) -> None:
+        count(line, 'word F I V')
+        frame = self.frame(line, line.words[1], 'the frame')
+        index = need_number(line, line.words[2], "the word's place", 0, 511)
+        self.scenario.words[frame, index] = need_number(line, line.words[3], 'the word')
+
+    def read_actor(self, line: Line) -> None:
+        words, scenario = line.words, self.scenario
+        if len(words) < 3:
+            line.fail('an actor is `actor N host`, `actor N fw` or `actor N cpu G vmpl V npt F flat`')
+        number = need_number(line, words[1], 'the actor')
+        if number != len(scenario.actors) + 1:
+            line.fail(f'actors are numbered from 1 on: this one should be {len(scenario.actors) + 1}')
+        actor = Actor(number, fixed(line, 2, 'cpu', 'host', 'fw'))
+        if actor.role != 'cpu':
+            count(line, f'actor N {actor.role}')
+        else:
+            self.read_processor(line, actor)
+        if len(scenario.actors) == MOST_ACTORS:
+            line.fail(f'a scenario has at most {MOST_ACTORS} actors')
+        scenario.actors[number] = self.actor = actor
+
+    def read_processor(self, line: Line, actor: Actor) -> None:
+        words = line.words
+        if len(words) not in (9, 10):
+            line.fail('a processor is `actor N cpu G vmpl V npt F flat`, or ends with `gcr3 P` or `la57 P`')
         actor.guest = need_number(line, words[3], 'the guest')
+        fixed(line, 4, 'vmpl')
         actor.vmpl = need_number(line, words[5], 'the VMPL', 0, 3)
-        actor.table = need_number(line, words[7], 'the frame of the nested table', 0, scenario.frames - 1)
+        fixed(line, 6, 'npt')
+        actor.table = self.frame(line, words[7], 'the frame of the nested table')
+        actor.paging = fixed(line, 8, *(('flat',) if len(words) == 9 else ('gcr3', 'la57')))
+        if actor.paging == 'la57' and self.scenario.version == 1:
+            line.fail('`la57` is a word of version 2: let the text begin with `snp 2`, or say `gcr3`')
         if len(words) == 10:
             actor.first_page = need_number(line, words[9], 'the page of the first table', 0, (1 << 36) - 1)
-        if actor.guest not in scenario.guests:
-            line.fail('guest %d isn\'t declared' % actor.guest)
-    scenario.actors[number] = actor
-    return actor
+        if actor.guest not in self.scenario.guests:
+            line.fail(self.undeclared(actor.guest))
+
+    def add_item(self, line: Line) -> None:
+        assert self.actor is not None
+        item = read_item(line, self.actor)
+        if item.word in ACCESSES and self.actor.role == 'host' and item.operands[0] >= 4096 * self.scenario.frames:
+            line.fail(f'the address {line.words[1]} is outside memory, which ends below {hex_of(4096 * self.scenario.frames)}')
+        self.attempts += 1 + item.retries
+        if self.attempts > MOST_ATTEMPTS:
+            line.fail(f'a scenario has at most {MOST_ATTEMPTS} attempts, the retries among them')
+        self.actor.items.append(item)
+
+    def read_order(self, line: Line) -> None:
+        if not 2 <= len(line.words) <= ORDER_WORDS + 1:
+            line.fail('an `order` line has 1 to 16 words behind `order`')
+        for word in line.words[1:]:
+            actor, times, many = word.partition('*')
+            if not is_decimal(actor) or times and not is_decimal(many):
+                hint = '; `snp-lab write` makes plain orders of such words' if word.endswith('!') or '@' in word else ''
+                line.fail(f'`{word}` is neither an actor nor an actor with its count, as `1*6`{hint}')
+            if times and not 1 <= int(many) <= ORDER_LIMIT:
+                line.fail(f'the count of `{word}` should be 1 to {ORDER_LIMIT}')
+            self.scenario.schedule.append((int(actor), int(many) if times else 1))
+
+    def read_end(self, line: Line) -> None:
+        count(line, 'end')
+
+
+READERS: dict[str, Callable[[Reader, Line], None]] = {
+    'snp': Reader.read_snp, 'regions': Reader.read_regions, 'guest': Reader.read_guest, 'page': Reader.read_page, 'word': Reader.read_word,
+    'actor': Reader.read_actor, 'order': Reader.read_order, 'end': Reader.read_end}
+
+
+def is_decimal(word: str) -> bool:
+    return word.isascii() and word.isdecimal() and (word == '0' or not word.startswith('0'))
 
 
 def read_skip(line: Line) -> Item:
-    count(line, 4, 5)
     words = line.words
+    if len(words) not in (4, 5):
+        line.fail('a skip is `skip N if ok`, `skip N if bad` or `skip N if value V`')
+    many = need_number(line, words[1], 'the count', 1, 8192)
     fixed(line, 2, 'if')
     if len(words) == 4:
-        return Item(line.text, 'skip', (need_number(line, words[1], 'the count', 1, 8192),), test=fixed(line, 3, 'ok', 'bad'))
+        return Item(line.text, 'skip', (many,), test=fixed(line, 3, 'ok', 'bad'))
     fixed(line, 3, 'value')
-    operands = (need_number(line, words[1], 'the count', 1, 8192), need_number(line, words[4], 'the value'))
-    return Item(line.text, 'skip', operands, test='value')
+    return Item(line.text, 'skip', (many, need_number(line, words[4], 'the value')), test='value')
 
 
-def read_item(line: Line, role: str) -> Item:
+def read_item(line: Line, actor: Actor) -> Item:
     words = line.words
     if words[0] == 'skip':
         return read_skip(line)
+    if words[0] not in FORMS:
+        line.fail(f'`{words[0]}` is no item of {ROLE_NAMES[actor.role]}{close_word(words[0], list(FORMS) + list(SECTIONS))}')
     roles = ('cpu', 'host') if words[0] in ACCESSES else (ROLE_OF.get(words[0], 'fw'),)
-    if words[0] not in OPERANDS or role not in roles:
-        line.fail('`%s` is no item of %s' % (words[0], ROLE_NAMES[role]))
+    if actor.role not in roles:
+        line.fail(f'`{words[0]}` is no item of {ROLE_NAMES[actor.role]}, which actor {actor.number} is: it is one of {ROLE_NAMES[roles[0]]}')
     retries = 0
     if len(words) >= 3 and words[-2] == 'retry':
         if words[0] not in RETRIED:
-            line.fail('`%s` has no retries' % words[0])
+            line.fail(f'`{words[0]}` has no retries')
         retries = need_number(line, words[-1], 'the count of retries', 1, 255)
         words = words[:-2]
-    if len(words) != OPERANDS[words[0]] + 1:
-        line.fail('`%s` has %d operands, and this line has %d' % (words[0], OPERANDS[words[0]], len(words) - 1))
-    operands = tuple({'4k': 4, '2m': 2}[word] if word in ('4k', '2m') else need_number(line, word, 'an operand')
-                     for word in words[1:])
-    return Item(line.text, words[0], operands, retries)
+    form, ranges = FORMS[words[0]]
+    names = form.split()
+    if len(words) != len(names) + 1:
+        line.fail(f'`{words[0]} {form}` has {len(names)} operands, and this line has {len(words) - 1}')
+    return Item(line.text, words[0], tuple(operand(line, name, word, ranges) for name, word in zip(names, words[1:])), retries)
 
 
-def read_order(line: Line, scenario: Scenario) -> None:
-    if not 2 <= len(line.words) <= ORDER_WORDS + 1:
-        line.fail('an `order` line has 1 to 16 words behind `order`')
-    for word in line.words[1:]:
-        actor, times, many = word.partition('*')
-        if not actor.isdecimal() or (times and not many.isdecimal()):
-            line.fail('`%s` is neither an actor nor an actor with its count, as `1*6`' % word)
-        scenario.schedule.append((int(actor), int(many) if times else 1))
+def operand(line: Line, name: str, word: str, ranges: dict[str, tuple[int, int]]) -> int:
+    """The number of an operand, by its name in the form of its item; a size is 4 or 2."""
+    if name == 'S':
+        if word not in ('4k', '2m'):
+            line.fail(f'the size should be `4k` or `2m`, and is `{word}`')
+        return 4 if word == '4k' else 2
+    value = need_number(line, word, f'{name} of `{line.words[0]} {FORMS[line.words[0]][0]}`', *ranges.get(name, (0, ANY)))
+    if name == 'A' and value % 8:
+        line.fail(f'the address {word} is no multiple of 8, as words stand at')
+    return value
 
 
 def parse(text: str, name: str) -> Scenario:
     """A scenario from its text."""
-    scenario = Scenario(name)
-    actor: Optional[Actor] = None
-    ended = False
+    reader = Reader(Scenario(name))
+    ended = 0
     for line in told_lines(text, name):
-        first = line.words[0]
         if ended:
-            line.fail('this line stands after `end`')
-        if scenario.regions == 0 and first not in ('snp', 'regions'):
-            line.fail('a scenario begins with `snp 1` and `regions N`, and this line is `%s`' % line.text[:60])
-        if first == 'snp':
-            count(line, 2)
-            scenario.version = int(fixed(line, 1, '1', '2'))
-        elif first == 'regions':
-            count(line, 2)
-            scenario.regions = need_number(line, line.words[1], 'the count of regions', 1)
-        elif first == 'guest':
-            read_guest(line, scenario)
-        elif first == 'page':
-            read_page(line, scenario)
-        elif first == 'word':
-            read_word(line, scenario)
-        elif first == 'actor':
-            actor = read_actor(line, scenario)
-        elif first == 'order':
-            read_order(line, scenario)
-        elif first == 'end':
-            count(line, 1)
-            ended = True
-        elif actor is None:
-            line.fail('`%s` begins no line that may stand here' % first)
-        else:
-            actor.items.append(read_item(line, actor.role))
+            line.fail(f'nothing may stand behind `end`, which is line {ended}')
+        reader.read(line)
+        ended = line.number if line.words[0] == 'end' else 0
     if not ended:
-        raise Complaint('the text ends without `end`; is it a scenario?', name, text.count('\n') + 1)
-    return scenario
+        raise Complaint("the text ends without its line `end`", name, text.count('\n') + 1)
+    if not text.rstrip('\n').endswith('end') or text.endswith('\n\n'):
+        raise Complaint(f'nothing may stand behind `end`, which is line {ended}, not even a comment or an empty line', name, ended + 1)
+    return reader.scenario
 
 
-def runs_of(actors: List[int]) -> List[Tuple[int, int]]:
+def runs_of(actors: list[int]) -> list[tuple[int, int]]:
     """Actors as runs, each as long as possible."""
-    runs: List[Tuple[int, int]] = []
+    runs: list[tuple[int, int]] = []
     for actor in actors:
         if runs and runs[-1][0] == actor:
             runs[-1] = (actor, runs[-1][1] + 1)
@@ -281,15 +399,15 @@ def runs_of(actors: List[int]) -> List[Tuple[int, int]]:
     return runs
 
 
-def order_lines(runs: List[Tuple[int, int]], short: bool = False) -> List[str]:
+def order_lines(runs: list[tuple[int, int]], short: bool = False) -> list[str]:
     """The `order` lines of runs; where they are to be short, one event is `A` in place of `A*1`."""
-    words = ['%d' % actor if short and many == 1 else '%d*%d' % (actor, many) for actor, many in runs]
+    words = [f'{actor}' if short and many == 1 else f'{actor}*{many}' for actor, many in runs]
     return ['order ' + ' '.join(words[k:k + ORDER_WORDS]) for k in range(0, len(words), ORDER_WORDS)]
 
 
-def without_order(text: str) -> List[str]:
+def without_order(text: str) -> list[str]:
     """The lines of a scenario's text up to its `order` lines or its `end`, without comments behind them."""
-    kept: List[str] = []
+    kept: list[str] = []
     for line in text.split('\n'):
         if line == 'end' or line.startswith('order '):
             break
@@ -297,7 +415,7 @@ def without_order(text: str) -> List[str]:
     return kept
 
 
-def with_order(text: str, runs: List[Tuple[int, int]]) -> str:
+def with_order(text: str, runs: list[tuple[int, int]]) -> str:
     """The scenario's text with these `order` lines in place of its own."""
     return '\n'.join(without_order(text) + order_lines(runs) + ['end']) + '\n'
 

@@ -3,7 +3,7 @@ commit changes. The rows are those of docs/MODEL.md, "Commands of the firmware".
 from __future__ import annotations
 
 from dataclasses import dataclass, replace
-from typing import TYPE_CHECKING, Dict, List, Optional, Tuple, Union
+from typing import TYPE_CHECKING, Optional, Union
 
 from . import codes, gcm
 from .codes import Row
@@ -21,7 +21,7 @@ INS = ('swap_in', 'md_in', 'md_root_in')
 SEALS = OUTS + INS
 LAST_COUNTER = (1 << 64) - 1
 # What a test says where it refuses: the answer, the row, and why it applies.
-Said = Tuple[str, Row, str]
+Said = tuple[str, Row, str]
 
 
 @dataclass(frozen=True)
@@ -41,7 +41,7 @@ def has_root(item: Item) -> bool:
 
 
 def slot_words(item: Item) -> str:
-    return 'the root of guest %d' % item.operands[0] if has_root(item) else 'entry %d of frame %d' % (item.operands[4], item.operands[3])
+    return f'the root of guest {item.operands[0]}' if has_root(item) else f'entry {item.operands[4]} of frame {item.operands[3]}'
 
 
 def slot_entry(watch: 'Watch', item: Item) -> Optional[Entry]:
@@ -54,19 +54,19 @@ def slot_entry(watch: 'Watch', item: Item) -> Optional[Entry]:
 def entry_words(watch: 'Watch', item: Item, entry: Optional[Entry]) -> str:
     """What an entry is, in words."""
     if entry is None:
-        return '%s isn\'t in use' % slot_words(item)
-    what = 'a metadata page' if entry.kind == METADATA_PAGE else 'page %s' % page_of(entry.gpn)
-    return '%s is that of %s of %s, under counter %d' % (slot_words(item), what, watch.guest_name(entry.asid), entry.counter)
+        return f"{slot_words(item)} isn't in use"
+    what = 'a metadata page' if entry.kind == METADATA_PAGE else f'page {page_of(entry.gpn)}'
+    return f'{slot_words(item)} is that of {what} of {watch.guest_name(entry.asid)}, under counter {entry.counter}'
 
 
-def foreign_entry(watch: 'Watch', guest: int, table: Table) -> Optional[Tuple[int, Entry]]:
+def foreign_entry(watch: 'Watch', guest: int, table: Table) -> Optional[tuple[int, Entry]]:
     """The first entry in use of a metadata page that is another guest's."""
     asid = watch.scenario.guests[guest].asid
     return next(((place, entry) for place, entry in sorted(table.entries.items()) if entry.asid != asid), None)
 
 
-def foreign_words(watch: 'Watch', found: Tuple[int, Entry]) -> str:
-    return 'entry %d there is that of %s' % (found[0], watch.guest_name(found[1].asid))
+def foreign_words(watch: 'Watch', found: tuple[int, Entry]) -> str:
+    return f'entry {found[0]} there is that of {watch.guest_name(found[1].asid)}'
 
 
 def context_extra(watch: 'Watch', item: Item) -> Optional[Said]:
@@ -74,7 +74,7 @@ def context_extra(watch: 'Watch', item: Item) -> Optional[Said]:
     guest = item.operands[0]
     root = watch.roots.get(guest)
     if item.word in OUTS and watch.counters.get(guest) == LAST_COUNTER:
-        return 'fw 0x1d', codes.CONTEXT[7], 'the counter of guest %d is %d' % (guest, LAST_COUNTER)
+        return 'fw 0x1d', codes.CONTEXT[7], f'the counter of guest {guest} is {LAST_COUNTER}'
     if item.word == 'md_root_out' and root is not None:
         return 'fw 0x1b', codes.CONTEXT[8], entry_words(watch, item, root)
     if item.word == 'md_root_in' and root is None:
@@ -98,7 +98,7 @@ def entry_extra(watch: 'Watch', item: Item) -> Optional[Said]:
     if entry is None or entry.kind != kind_of(item):
         return 'fw 0x1b', codes.PAGE[7], because
     if entry.asid != watch.scenario.guests[item.operands[0]].asid:
-        return 'fw 0x1c', codes.PAGE[8], '%s, and the command is for guest %d' % (because, item.operands[0])
+        return 'fw 0x1c', codes.PAGE[8], f'{because}, and the command is for guest {item.operands[0]}'
     return None
 
 
@@ -111,7 +111,7 @@ def opened(watch: 'Watch', item: Item, entry: Entry) -> Union[Content, Said]:
         key, cipher = watch.scenario.guests[item.operands[0]].key, source.all()
         found = gcm.tag_of(key, entry.counter, entry.asid, entry.gpn, cipher)
         if found != entry.tag:
-            answer = 'fw 0xb found %s kept %s' % (found.hex(), entry.tag.hex())
+            answer = f'fw 0xb found {found.hex()} kept {entry.tag.hex()}'
             return answer, codes.COMPUTE[0], tag_words(watch, item, source, entry)
         plain = Words(dict(enumerate(gcm.crypted(key, entry.counter, cipher))))
     if kind_of(item) == GUEST_PAGE:
@@ -123,15 +123,15 @@ def opened(watch: 'Watch', item: Item, entry: Entry) -> Union[Content, Said]:
 
 def tag_words(watch: 'Watch', item: Item, source: Content, entry: Entry) -> str:
     """Why a tag is another than the one that was kept."""
-    kept = 'event %d sealed' % entry.sealed.event if entry.sealed is not None else 'was sealed'
-    wanted = 'and %s is for the one that %s under counter %d' % (slot_words(item), kept, entry.counter)
+    kept = f'event {entry.sealed.event} sealed' if entry.sealed is not None else 'was sealed'
+    wanted = f'and {slot_words(item)} is for the one that {kept} under counter {entry.counter}'
     if isinstance(source, Sealed):
-        return 'frame %d has the ciphertext that event %d sealed for %s under counter %d, %s' % (
-            item.operands[1], source.event, watch.guest_name(source.asid), source.counter, wanted)
+        return (f'frame {item.operands[1]} has the ciphertext that event {source.event} sealed for {watch.guest_name(source.asid)} under '
+                f'counter {source.counter}, {wanted}')
     if isinstance(source, Words) and source.was is not None:
-        return 'frame %d had the ciphertext that event %d sealed, and words of it were written since, %s' % (
-            item.operands[1], source.was.event, wanted)
-    return 'frame %d has no ciphertext that a command put there, %s' % (item.operands[1], wanted)
+        return (f'frame {item.operands[1]} had the ciphertext that event {source.was.event} sealed, and words of it were written since, '
+                f'{wanted}')
+    return f'frame {item.operands[1]} has no ciphertext that a command put there, {wanted}'
 
 
 def compute_refusal(watch: 'Watch', item: Item) -> Optional[Said]:
@@ -167,8 +167,8 @@ def commit_deed(watch: 'Watch', item: Item, made: Optional[Made]) -> Optional[st
     """The commit of a command that seals or opens, without its outcome; nothing where its compute isn't known."""
     frame = item.operands[1 if item.word in OUTS else 2]
     if kind_of(item) == METADATA_PAGE:
-        return 'commit %d 0x0 4k' % frame
-    return None if made is None else 'commit %d %s 4k' % (frame, hex_of(made.entry.gpn))
+        return f'commit {frame} 0x0 4k'
+    return None if made is None else f'commit {frame} {hex_of(made.entry.gpn)} 4k'
 
 
 def commit(watch: 'Watch', event: Event, item: Item, made: Made) -> None:
@@ -209,27 +209,27 @@ def bring_back(watch: 'Watch', event: Event, item: Item, target: int, made: Made
     watch.put(frames, event, replace(facts, gpn=entry.gpn, validated=entry.validated, vmsa=entry.vmsa, permissions=entry.permissions))
 
 
-def refills(watch: 'Watch', item: Item, made: Optional[Made], zeroed: str) -> Dict[range, str]:
+def refills(watch: 'Watch', item: Item, made: Optional[Made], zeroed: str) -> dict[range, str]:
     """What a commit does to the words of whole frames."""
     source, target = (range(frame, frame + 1) for frame in item.operands[1:3])
     if item.word in OUTS:
-        return {source: 'sealed the page into frame %d, and this frame\'s %s' % (target.start, zeroed),
-                target: 'put the ciphertext of the page of frame %d here' % source.start}
+        return {source: f"sealed the page into frame {target.start}, and this frame's {zeroed}",
+                target: f'put the ciphertext of the page of frame {source.start} here'}
     sealed = made.entry.sealed if made is not None else None
     if made is None or sealed is None or made.content is not sealed.plain:
-        return {target: 'opened the page here from frame %d' % source.start}
-    since = 'with the words that frame %d had as event %d sealed it' % (sealed.frame, sealed.event)
-    return {target: 'opened the page here from frame %d, %s' % (source.start, since)}
+        return {target: f'opened the page here from frame {source.start}'}
+    since = f'with the words that frame {sealed.frame} had as event {sealed.event} sealed it'
+    return {target: f'opened the page here from frame {source.start}, {since}'}
 
 
-def compute_words(watch: 'Watch', event: Event, item: Item) -> List[str]:
+def compute_words(watch: 'Watch', event: Event, item: Item) -> list[str]:
     """What a compute does."""
     frame = item.operands[1]
     if item.word in OUTS:
-        return ['the words of frame %d are copied and sealed, under counter %s of guest %d'
-                % (frame, watch.counters.get(item.operands[0], '?'), item.operands[0])]
+        return [(f"the words of frame {frame} are copied and sealed, under counter {watch.counters.get(item.operands[0], '?')} of guest "
+                 f"{item.operands[0]}")]
     entry = slot_entry(watch, item)
-    words = ['the words of frame %d are copied and opened; %s' % (frame, entry_words(watch, item, entry))]
+    words = [f'the words of frame {frame} are copied and opened; {entry_words(watch, item, entry)}']
     if not event.outcome and entry is not None and is_foreign(watch, item, entry):
         words.append('a foreign ciphertext meets this tag: what is promised of the guest\'s memory ends here (docs/THEOREMS.md)')
     return words
@@ -246,13 +246,13 @@ def commit_words(watch: 'Watch', item: Item) -> str:
     source, target = item.operands[1:3]
     if item.word in OUTS:
         given = 'becomes a page in the state Reclaim' if kind_of(item) == GUEST_PAGE else 'is a Firmware page again'
-        return ('frame %d gets the ciphertext; frame %d %s, with zero words; %s is written, and the counter of guest %d is now %d'
-                % (target, source, given, slot_words(item), item.operands[0], watch.counters.get(item.operands[0], 0) + 1))
+        return (f'frame {target} gets the ciphertext; frame {source} {given}, with zero words; {slot_words(item)} is written, and the '
+                f'counter of guest {item.operands[0]} is now {watch.counters.get(item.operands[0], 0) + 1}')
     entry = slot_entry(watch, item)
     if kind_of(item) == METADATA_PAGE:
-        return 'frame %d is the metadata page that was sealed; %s is cleared' % (target, slot_words(item))
+        return f'frame {target} is the metadata page that was sealed; {slot_words(item)} is cleared'
     if entry is None:
-        return 'frame %d gets the page\'s words; %s is cleared' % (target, slot_words(item))
+        return f"frame {target} gets the page's words; {slot_words(item)} is cleared"
     state = 'Pre-Swap' if entry.validated else 'Pre-Guest'
-    return 'frame %d becomes page %s of guest %d again (%s), with the words and permissions that it had; %s is cleared' % (
-        target, page_of(entry.gpn), item.operands[0], state, slot_words(item))
+    return (f'frame {target} becomes page {page_of(entry.gpn)} of guest {item.operands[0]} again ({state}), with the words and permissions '
+            f'that it had; {slot_words(item)} is cleared')

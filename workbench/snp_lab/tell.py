@@ -2,7 +2,8 @@
 from __future__ import annotations
 
 from dataclasses import dataclass, field
-from typing import Callable, Dict, List, Optional, Tuple
+from collections.abc import Callable
+from typing import Optional
 
 from . import codes, commands, seals, updates
 from .codes import Row
@@ -12,7 +13,7 @@ from .report import Event
 from .scenario import ACCESSES, Actor, Item, Scenario
 from .texts import hex_of, number_of, page_of
 
-Decision = Tuple[Optional[Row], str]
+Decision = tuple[Optional[Row], str]
 
 
 @dataclass
@@ -21,7 +22,7 @@ class Told:
     event: Event
     item: str
     who: str
-    words: List[str] = field(default_factory=list)
+    words: list[str] = field(default_factory=list)
     outcome: str = ''
     decided: str = ''
     because: str = ''
@@ -29,22 +30,22 @@ class Told:
     misfit: str = ''
 
     @property
-    def lines(self) -> List[str]:
+    def lines(self) -> list[str]:
         """The explanation as lines of text."""
-        lines = ['event %d: actor %d (%s), item %d `%s`%s' % (
-            self.event.number, self.event.actor, self.who, self.event.item, self.item,
-            ', attempt %d' % self.event.attempt if self.event.attempt else ''), '  ' + self.event.text]
+        event = self.event
+        again = f', attempt {event.attempt}' if event.attempt else ''
+        lines = [f'event {event.number}: actor {event.actor} ({self.who}), item {event.item} `{self.item}`{again}', '  ' + event.text]
         lines += ['  ' + words for words in self.words]
         named = (('outcome', self.outcome), ('decided by', self.decided), ('because', self.because), ('goes to', self.receiver),
                  ('misfit', self.misfit))
-        return lines + ['  %s: %s' % (name, text) for name, text in named if text]
+        return lines + [f'  {name}: {text}' for name, text in named if text]
 
 
 def nested_index(gpn: int, level: int) -> int:
     return (gpn >> 9 * (level - 1)) % 512
 
 
-def bits_words(word: int, names: Tuple[Tuple[int, str], ...]) -> str:
+def bits_words(word: int, names: tuple[tuple[int, str], ...]) -> str:
     return ', '.join(name if word >> place & 1 else 'not ' + name for place, name in names)
 
 
@@ -55,7 +56,12 @@ NESTED_NAMES = ((0, 'present'), (1, 'writable'), (2, 'user'))
 GUEST_NAMES = ((0, 'present'), (1, 'writable'))
 
 
-def deeds_of(item: Item, actor: Actor) -> Tuple[str, ...]:
+def quoted(expected: str) -> str:
+    """What an event should have ended with."""
+    return f'`{expected}`' if expected else 'let through'
+
+
+def deeds_of(item: Item, actor: Actor) -> tuple[str, ...]:
     """The kinds of events that an item may have."""
     if item.word == 'skip':
         return ('skip',)
@@ -78,13 +84,13 @@ class Teller:
         actor, item = self.watch.actor_of(event), self.watch.item_of(event)
         told = Told(event, item.text if item else '?', actor.title if actor else 'not in this scenario')
         if actor is None or item is None:
-            told.misfit = 'the scenario has no item %d of actor %d: %s' % (event.item, event.actor, APART)
+            told.misfit = f'the scenario has no item {event.item} of actor {event.actor}: {APART}'
             return told
         if event.kind not in deeds_of(item, actor):
-            told.misfit = '`%s` has no such event: %s' % (item.word, APART)
+            told.misfit = f'`{item.word}` has no such event: {APART}'
             return told
         if event.attempt > item.retries:
-            told.misfit = '`%s` has %d retries, and this is attempt %d, from 0: %s' % (item.word, item.retries, event.attempt, APART)
+            told.misfit = f'`{item.word}` has {item.retries} retries, and this is attempt {event.attempt}, from 0: {APART}'
         attempt = self.watch.open_attempt(event)
         DEED_WORDS[event.kind](self, told, attempt, actor, item)
         if event.outcome:
@@ -113,7 +119,7 @@ class Teller:
         elif event.kind == 'lock':
             decision = self.lock_decision(event, attempt, actor, item)
         elif event.kind == 'commit' and event.outcome[2:] == ('cf', '1'):
-            decision = None, 'Validated was %d already' % item.operands[2]
+            decision = None, f'Validated was {item.operands[2]} already'
         if decision is not None:
             told.decided = str(decision[0]) if decision[0] is not None else ''
             told.because = decision[1]
@@ -127,9 +133,9 @@ class Teller:
         code = 4 | (2 if writes else 0) | (0x100000000 if attempt.is_final else 0x200000000)
         code |= 0x400000000 if attempt.is_private or not attempt.is_final else 0
         code |= 0 if decision is None or decision[0] is codes.NESTED_NOT_PRESENT else 1
-        expected = 'let through' if decision is None else '`npf 0x%x`' % code
+        expected = 'let through' if decision is None else f'`npf 0x{code:x}`'
         if expected.strip('`') != event.answer:
-            told.misfit = 'by the scenario this should be %s: %s' % (expected, APART)
+            told.misfit = f'by the scenario this should be {expected}: {APART}'
             return None
         return decision
 
@@ -140,18 +146,18 @@ class Teller:
         facts = self.watch.facts_of(event.frame)
         if not word & 1:
             is_hidden = facts is not None and facts.assigned
-            zero = ': %s, so that the walker reads 0 there%s' % (
-                self.watch.entry_words(event.frame), self.watch.change_words(event.frame)) if is_hidden else ''
-            return codes.NESTED_NOT_PRESENT, 'the word %s has bit 0 clear%s' % (event.deed[2], zero)
+            zero = (f': {self.watch.entry_words(event.frame)}, so that the walker reads 0 '
+                    f'there{self.watch.change_words(event.frame)}') if is_hidden else ''
+            return codes.NESTED_NOT_PRESENT, f'the word {event.deed[2]} has bit 0 clear{zero}'
         if below >= self.scenario.frames:
-            return codes.NESTED_NOT_PRESENT, 'frame %d, which the word %s names, is outside memory, which has %d frames' % (
-                below, event.deed[2], self.scenario.frames)
+            return codes.NESTED_NOT_PRESENT, (f'frame {below}, which the word {event.deed[2]} names, is outside memory, which has '
+                                              f'{self.scenario.frames} frames')
         if not word & 4:
-            return codes.NESTED_USER, 'the word %s has bit 2 clear' % event.deed[2]
+            return codes.NESTED_USER, f'the word {event.deed[2]} has bit 2 clear'
         if word & 2 or attempt.is_final and not item.writes:
             return None
-        why = 'the walk is of a guest table\'s address' if not attempt.is_final else '`%s` writes' % item.word
-        return codes.NESTED_WRITE, 'the word %s has bit 1 clear, and %s' % (event.deed[2], why)
+        why = 'the walk is of a guest table\'s address' if not attempt.is_final else f'`{item.word}` writes'
+        return codes.NESTED_WRITE, f'the word {event.deed[2]} has bit 1 clear, and {why}'
 
     def frame_below(self, word: int, attempt: Attempt) -> int:
         below = entry_frame(word)
@@ -164,12 +170,12 @@ class Teller:
         word = int(event.deed[3], 0)
         write = 2 if item.writes else 0
         if not word & 1:
-            expected, decision = 'pf 0x%x' % write, (codes.GUEST_NOT_PRESENT, 'the guest\'s own entry %s has bit 0 clear' % event.deed[3])
+            expected, decision = f'pf 0x{write:x}', (codes.GUEST_NOT_PRESENT, f"the guest's own entry {event.deed[3]} has bit 0 clear")
         else:
             expected = 'pf 0x3' if write and not word & 2 else ''
-            decision = codes.GUEST_WRITE, 'the guest\'s own entry %s has bit 1 clear, and the access writes' % event.deed[3]
+            decision = codes.GUEST_WRITE, f"the guest's own entry {event.deed[3]} has bit 1 clear, and the access writes"
         if expected != event.answer:
-            told.misfit = 'by the scenario this should be %s: %s' % ('`%s`' % expected if expected else 'let through', APART)
+            told.misfit = f'by the scenario this should be {quoted(expected)}: {APART}'
             return None
         return decision
 
@@ -189,7 +195,7 @@ class Teller:
         expected = self.expected(row, event, item)
         passed = event.outcome[0] not in ('npf', 'pf', 'vc', 'opaque')
         if (expected is None) != passed or expected is not None and expected != event.outcome:
-            told.misfit = 'by the scenario this should be %s: %s' % ('`%s`' % ' '.join(expected) if expected else 'let through', APART)
+            told.misfit = f"by the scenario this should be {quoted(' '.join(expected or ()))}: {APART}"
             return None
         if row is None:
             return self.origin(told, event, item)
@@ -202,10 +208,10 @@ class Teller:
         return next((row for row, applies in zip(codes.PRIVATE, refused) if applies), None)
 
     @staticmethod
-    def open_row(facts: Facts, item: Item, table: List[Row]) -> Optional[Row]:
+    def open_row(facts: Facts, item: Item, table: list[Row]) -> Optional[Row]:
         return None if not facts.assigned else table[0 if item.writes else 1]
 
-    def expected(self, row: Optional[Row], event: Event, item: Item) -> Optional[Tuple[str, ...]]:
+    def expected(self, row: Optional[Row], event: Event, item: Item) -> Optional[tuple[str, ...]]:
         """The outcome that a row gives."""
         if row is None:
             return None
@@ -218,24 +224,23 @@ class Teller:
         code = 0x80000005 | (0x200000002 if event.kind == 'gpt' else 0x100000000 | (2 if item.writes else 0))
         code |= 0 if event.kind == 'data' and event.deed[3] == 's' else 0x400000000
         code |= 0x1000000000 if row is codes.PRIVATE[5] else 0
-        return 'npf', '0x%x' % code
+        return 'npf', f'0x{code:x}'
 
     def check_words(self, row: Row, facts: Facts, event: Event, actor: Actor, item: Item) -> str:
         entry = self.watch.entry_words(event.frame)
         guest = actor.guest
         if row is codes.PRIVATE[0]:
-            return '%s, and the access is of guest %d' % (entry, guest)
+            return f'{entry}, and the access is of guest {guest}'
         if row is codes.PRIVATE[1]:
-            return '%s, and page %s was asked' % (entry, page_of(event.place[0]))
+            return f'{entry}, and page {page_of(event.place[0])} was asked'
         if row is codes.PRIVATE[3]:
-            return '%s, a page of 4 KB, and the nested leaf is of 2 MB' % entry
+            return f'{entry}, a page of 4 KB, and the nested leaf is of 2 MB'
         if row is codes.PRIVATE[5]:
-            return '%s, where VMPL%d has the permissions %d, and `%s` needs %s' % (
-                entry, actor.vmpl, facts.permissions[actor.vmpl], item.word,
-                'bit 0' if event.kind == 'gpt' or item.word == 'load' else 'bit 1' if item.word == 'store' else 'bits 0 and 1')
+            return (f"{entry}, where VMPL{actor.vmpl} has the permissions {facts.permissions[actor.vmpl]}, and `{item.word}` needs "
+                    f"{'bit 0' if event.kind == 'gpt' or item.word == 'load' else 'bit 1' if item.word == 'store' else 'bits 0 and 1'}")
         if event.kind in ('host', 'data') and row in codes.HOST + codes.SHARED:
             loads = 'the access loads: what a machine would show is no word of the guest'
-            return '%s, and %s' % (entry, 'the access writes' if item.writes else loads)
+            return f"{entry}, and {'the access writes' if item.writes else loads}"
         return entry
 
     def origin(self, told: Told, event: Event, item: Item) -> Optional[Decision]:
@@ -243,7 +248,7 @@ class Teller:
         if event.kind == 'gpt':
             return None
         if event.outcome[0] != ANSWERS.get(item.word):
-            told.misfit = '`%s` doesn\'t end so: %s' % (item.word, APART)
+            told.misfit = f"`{item.word}` doesn't end so: {APART}"
         if event.outcome[0] not in ('load', 'swap', 'cas'):
             return None
         key = (event.frame, event.place[1])
@@ -251,11 +256,11 @@ class Teller:
         refill = self.watch.refill_words(event.frame, -1 if written is None else written)
         stands = hex_of(self.watch.memory.word(*key))
         if event.outcome[1] != stands:
-            told.misfit = 'by the scenario this word should be %s: %s' % (stands, APART)
+            told.misfit = f'by the scenario this word should be {stands}: {APART}'
         if refill:
             return None, refill
         if written is not None:
-            return None, 'event %d wrote this word' % written
+            return None, f'event {written} wrote this word'
         if key in self.scenario.words:
             return None, 'the word is that of the opening'
         return None, 'nobody wrote this word since the opening' if event.outcome[1] == '0x0' else ''
@@ -264,23 +269,23 @@ class Teller:
 
     def begin_decision(self, told: Told, event: Event, actor: Actor, item: Item) -> Optional[Decision]:
         if event.outcome[0] == 'offline':
-            return codes.OFFLINE, 'guest %d is %s' % (actor.guest, self.watch.states.get(actor.guest, '?'))
+            return codes.OFFLINE, f"guest {actor.guest} is {self.watch.states.get(actor.guest, '?')}"
         address = item.operands[0]
         low = 56 if actor.paging == 'la57' else 47
         top = address >> low
         if event.outcome[0] == 'gp' and top not in (0, (1 << 64 - low) - 1):
-            return codes.CANONICAL, 'bits 63:%d of 0x%x aren\'t all equal' % (low, address)
+            return codes.CANONICAL, f"bits 63:{low} of 0x{address:x} aren't all equal"
         if event.outcome[0] == 'gp' and item.word == 'pvalidate' and actor.vmpl:
-            return codes.BEGIN['vmpl'], 'PVALIDATE is for VMPL0 alone, and this is VMPL%d' % actor.vmpl
+            return codes.BEGIN['vmpl'], f'PVALIDATE is for VMPL0 alone, and this is VMPL{actor.vmpl}'
         if event.outcome[0] != 'rc' or item.word in ACCESSES:
-            told.misfit = 'by the scenario this should go on: %s' % APART
+            told.misfit = f'by the scenario this should go on: {APART}'
             return None
         if address % (4096 * (512 if item.operands[1] == 2 else 1)):
-            return codes.BEGIN['align'], '0x%x isn\'t a multiple of %s' % (address, '2 MB' if item.operands[1] == 2 else '4 KB')
+            return codes.BEGIN['align'], f"0x{address:x} isn't a multiple of {'2 MB' if item.operands[1] == 2 else '4 KB'}"
         if item.word != 'rmpadjust':
             return None
-        return codes.BEGIN['target' if event.outcome[1] == '2' else 'mask'], 'target VMPL %d, mask %d, by VMPL%d' % (
-            item.operands[2], item.operands[3], actor.vmpl)
+        return codes.BEGIN['target' if event.outcome[1] == '2' else 'mask'], (f'target VMPL {item.operands[2]}, mask {item.operands[3]}, by '
+                                                                              f'VMPL{actor.vmpl}')
 
     def lock_decision(self, event: Event, attempt: Attempt, actor: Actor, item: Item) -> Optional[Decision]:
         if item.word in updates.INSTRUCTIONS:
@@ -291,7 +296,8 @@ class Teller:
         """The row that refused a lock or a compute of a command; an event that the scenario doesn't give is a misfit."""
         event = told.event
         refusal: Optional[commands.Refusal] = None
-        if event.kind in ('lock', 'lockg', 'compute') and ' '.join(event.deed) in commands.deeds_of(item)[len(attempt.events):len(attempt.events) + 1]:
+        due = commands.deeds_of(item)[len(attempt.events):len(attempt.events) + 1]
+        if event.kind in ('lock', 'lockg', 'compute') and ' '.join(event.deed) in due:
             refusal = commands.refusal_of(self.watch, event, attempt, item)
         if refusal is not None and refusal.answer == event.answer:
             told.decided, told.because = str(refusal.row), refusal.because
@@ -299,7 +305,7 @@ class Teller:
             told.decided = str(commands.row_of_status(event) or '')
         fault = commands.fault(self.watch, event, attempt, item, refusal)
         if fault:
-            told.misfit = 'by the scenario this should be %s: %s' % (fault, APART)
+            told.misfit = f'by the scenario this should be {fault}: {APART}'
 
     def decide_update(self, told: Told, attempt: Attempt, item: Item) -> None:
         """The row of RMPUPDATE or PSMASH that refused a lock; a lock or commit that the scenario doesn't give is a misfit."""
@@ -314,12 +320,12 @@ class Teller:
             elif event.outcome and not known:
                 told.decided = str(updates.row_of_status(event, item) or '')
         if fault:
-            told.misfit = 'by the scenario this should be %s: %s' % (fault, APART)
+            told.misfit = f'by the scenario this should be {fault}: {APART}'
 
     def held_words(self, frame: int, holder: str) -> str:
         """Who holds the lock of a frame's page, and since when."""
         held = self.watch.holder(self.watch.page_frames(frame))
-        return self.watch.holder_words(*held) if held is not None else 'actor %s holds the lock' % holder
+        return self.watch.holder_words(*held) if held is not None else f'actor {holder} holds the lock'
 
     def validate_words(self, event: Event, attempt: Attempt, actor: Actor, item: Item) -> Optional[Decision]:
         frame = int(event.deed[1])
@@ -328,14 +334,14 @@ class Teller:
         if event.outcome[0] == 'npf' and (number_of(event.outcome[1]) or 0) >> 35 & 1:
             return codes.VALIDATE[3], entry if facts is None or facts.is_large else 'the nested leaf is of 2 MB'
         if event.outcome[0] == 'npf':
-            asked = '' if attempt.gpn is None else ', and page %s of guest %d was asked' % (page_of(attempt.gpn), actor.guest)
+            asked = '' if attempt.gpn is None else f', and page {page_of(attempt.gpn)} of guest {actor.guest} was asked'
             return codes.VALIDATE[2], entry + asked
         if event.outcome[0] == 'vc':
             return codes.VALIDATE[5], entry
         status = number_of(event.outcome[1]) or 0
         if status == 2:
             return self.adjust_permission(facts, actor, item)
-        return {1: (codes.VALIDATE[0], 'page %s was asked' % page_of(attempt.gpn or 0)),
+        return {1: (codes.VALIDATE[0], f'page {page_of(attempt.gpn or 0)} was asked'),
                 3: (codes.VALIDATE[1], self.held_words(frame, event.outcome[-1])),
                 6: (codes.VALIDATE[4], entry)}.get(status)
 
@@ -344,8 +350,8 @@ class Teller:
             return None
         own, mask = facts.permissions[actor.vmpl], item.operands[3]
         if mask & ~own:
-            return codes.VALIDATE[6], 'the mask is %d, and VMPL%d has %d itself' % (mask, actor.vmpl, own)
-        return codes.VALIDATE[7], 'this is VMPL%d' % actor.vmpl
+            return codes.VALIDATE[6], f'the mask is {mask}, and VMPL{actor.vmpl} has {own} itself'
+        return codes.VALIDATE[7], f'this is VMPL{actor.vmpl}'
 
 
 def retry_words(event: Event, item: Item) -> str:
@@ -353,7 +359,7 @@ def retry_words(event: Event, item: Item) -> str:
     if 'by' not in event.outcome or not item.retries:
         return ''
     if event.attempt < item.retries:
-        return '; the item is attempted again, retry %d of %d' % (event.attempt + 1, item.retries)
+        return f'; the item is attempted again, retry {event.attempt + 1} of {item.retries}'
     return '; no retry is left, and the actor goes on'
 
 
@@ -373,7 +379,7 @@ def receiver(event: Event) -> str:
 def tell_begin(teller: Teller, told: Told, attempt: Attempt, actor: Actor, item: Item) -> None:
     if item.operands:
         address = item.operands[0]
-        told.words.append('`%s` begins at the virtual address 0x%x' % (item.word, address))
+        told.words.append(f'`{item.word}` begins at the virtual address 0x{address:x}')
 
 
 def tell_nested(teller: Teller, told: Told, attempt: Attempt, actor: Actor, item: Item) -> None:
@@ -381,40 +387,39 @@ def tell_nested(teller: Teller, told: Told, attempt: Attempt, actor: Actor, item
     frame, index = told.event.place
     page = page_of(attempt.gpn) if attempt.gpn is not None else '?'
     of = 'the page that is accessed' if attempt.is_final else 'a table of the guest'
-    told.words.append('nested walk of page %s (%s), level %d: word %d of the table in frame %d' % (page, of, level, index, frame))
+    told.words.append(f'nested walk of page {page} ({of}), level {level}: word {index} of the table in frame {frame}')
     leaf = level == 1 or level == 2 and bool(word & 0x80)
-    size = '' if not leaf else ' (a leaf of %s)' % ('4 KB' if level == 1 else '2 MB')
-    told.words.append('the word %s names frame %d%s: %s' % (told.event.deed[2], teller.frame_below(word, attempt), size,
-                                                           bits_words(word, NESTED_NAMES)))
+    size = '' if not leaf else f" (a leaf of {'4 KB' if level == 1 else '2 MB'})"
+    told.words.append(f'the word {told.event.deed[2]} names frame {teller.frame_below(word, attempt)}{size}: '
+                      f'{bits_words(word, NESTED_NAMES)}')
     if level < 1:
-        told.misfit = 'a walk has no more reads than levels: %s' % APART
+        told.misfit = f'a walk has no more reads than levels: {APART}'
     elif attempt.gpn is not None and nested_index(attempt.gpn, level) != index:
-        told.misfit = 'by the scenario this should be word %d: %s' % (nested_index(attempt.gpn, level), APART)
+        told.misfit = f'by the scenario this should be word {nested_index(attempt.gpn, level)}: {APART}'
 
 
 def tell_table(teller: Teller, told: Told, attempt: Attempt, actor: Actor, item: Item) -> None:
     gpn, index = told.event.place
     level = (5 if actor.paging == 'la57' else 4) - attempt.table_reads
-    told.words.append('guest walk, level %d: word %d of the guest\'s page %s, in frame %d' % (level, index, page_of(gpn), told.event.frame))
+    told.words.append(f"guest walk, level {level}: word {index} of the guest's page {page_of(gpn)}, in frame {told.event.frame}")
     if told.event.deed[3] == '-':
         told.words.append('the RMP refused the read, so that no word was read')
         return
     word = int(told.event.deed[3], 0)
     leaf = level == 1 or level == 2 and bool(word & 0x80)
-    told.words.append('the word %s names page %s: %s%s' % (told.event.deed[3], page_of(entry_frame(word)), bits_words(word, GUEST_NAMES),
-                                                            ', private' if leaf and word >> 51 & 1 else ', shared' if leaf else ''))
+    told.words.append(f"the word {told.event.deed[3]} names page {page_of(entry_frame(word))}: "
+                      f"{bits_words(word, GUEST_NAMES)}{', private' if leaf and word >> 51 & 1 else ', shared' if leaf else ''}")
 
 
 def tell_data(teller: Teller, told: Told, attempt: Attempt, actor: Actor, item: Item) -> None:
     gpn, index = told.event.place
-    told.words.append('%s access to word %d of the guest\'s page %s, in frame %d; %s' % (
-        'private' if told.event.deed[3] == 'p' else 'shared', index, page_of(gpn), told.event.frame,
-        teller.watch.entry_words(told.event.frame)))
+    told.words.append(f"{'private' if told.event.deed[3] == 'p' else 'shared'} access to word {index} of the guest's page {page_of(gpn)}, "
+                      f"in frame {told.event.frame}; {teller.watch.entry_words(told.event.frame)}")
 
 
 def tell_host(teller: Teller, told: Told, attempt: Attempt, actor: Actor, item: Item) -> None:
-    told.words.append('access of the hypervisor to word %d of frame %d; %s' % (
-        told.event.place[1], told.event.place[0], teller.watch.entry_words(told.event.place[0])))
+    told.words.append(f'access of the hypervisor to word {told.event.place[1]} of frame {told.event.place[0]}; '
+                      f'{teller.watch.entry_words(told.event.place[0])}')
 
 
 def tell_lock(teller: Teller, told: Told, attempt: Attempt, actor: Actor, item: Item) -> None:
@@ -426,7 +431,7 @@ def tell_lock(teller: Teller, told: Told, attempt: Attempt, actor: Actor, item: 
         return
     frame = number_of(told.event.deed[1]) or 0
     verb = 'asks for' if told.event.outcome else 'locks'
-    told.words.append('%s the page of frame %d; %s' % (verb, frame, teller.watch.entry_words(frame)))
+    told.words.append(f'{verb} the page of frame {frame}; {teller.watch.entry_words(frame)}')
 
 
 def tell_commit(teller: Teller, told: Told, attempt: Attempt, actor: Actor, item: Item) -> None:
@@ -438,8 +443,8 @@ def tell_commit(teller: Teller, told: Told, attempt: Attempt, actor: Actor, item
         return
     if told.event.kind == 'commitg':
         return
-    told.words.append('frame %s, page %s, %s: the change is made' % (
-        told.event.deed[1], told.event.deed[2], '2 MB' if told.event.deed[3] == '2m' else '4 KB'))
+    told.words.append(f"frame {told.event.deed[1]}, page {told.event.deed[2]}, {'2 MB' if told.event.deed[3] == '2m' else '4 KB'}: the "
+                      "change is made")
 
 
 def tell_compute(teller: Teller, told: Told, attempt: Attempt, actor: Actor, item: Item) -> None:
@@ -448,11 +453,11 @@ def tell_compute(teller: Teller, told: Told, attempt: Attempt, actor: Actor, ite
 
 
 def tell_skip(teller: Teller, told: Told, attempt: Attempt, actor: Actor, item: Item) -> None:
-    tests = {'ok': 'is good', 'bad': 'is bad', 'value': 'has the value %s' % item.operands[-1]}
-    told.words.append('tests whether the last outcome of this actor %s' % tests.get(item.test, '?'))
+    tests = {'ok': 'is good', 'bad': 'is bad', 'value': f'has the value {item.operands[-1]}'}
+    told.words.append(f"tests whether the last outcome of this actor {tests.get(item.test, '?')}")
 
 
-DEED_WORDS: Dict[str, Callable[[Teller, Told, Attempt, Actor, Item], None]] = {
+DEED_WORDS: dict[str, Callable[[Teller, Told, Attempt, Actor, Item], None]] = {
     'begin': tell_begin, 'npt': tell_nested, 'gpt': tell_table, 'data': tell_data, 'host': tell_host, 'lock': tell_lock,
     'lockg': tell_lock, 'commit': tell_commit, 'commitg': tell_commit, 'compute': tell_compute, 'skip': tell_skip,
 }

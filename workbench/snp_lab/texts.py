@@ -4,7 +4,8 @@ from __future__ import annotations
 import re
 import sys
 from dataclasses import dataclass
-from typing import Iterator, List, NoReturn, Optional
+from collections.abc import Iterator
+from typing import NoReturn, Optional
 
 DECIMAL = re.compile(r'(?:0|[1-9][0-9]*)\Z')
 HEX = re.compile(r'0x[0-9a-f]{1,16}\Z')
@@ -24,8 +25,8 @@ class Complaint(Exception):
         self.line = line
 
     def __str__(self) -> str:
-        place = ''.join('%s:' % part for part in (self.name, self.line) if part is not None)
-        return '%s %s' % (place, self.message) if place else self.message
+        place = ''.join(f'{part}:' for part in (self.name, self.line) if part is not None)
+        return f'{place} {self.message}' if place else self.message
 
 
 @dataclass(frozen=True)
@@ -36,7 +37,7 @@ class Line:
     text: str
 
     @property
-    def words(self) -> List[str]:
+    def words(self) -> list[str]:
         return self.text.split(' ')
 
     @property
@@ -51,9 +52,9 @@ class Line:
         for char in self.text:
             if char in NAMED_BYTES:
                 ending = ' at its end; save the text with line feeds alone' if char == '\r' and self.text.endswith(char) else ''
-                self.fail('this line has %s%s' % (NAMED_BYTES[char], ending))
+                self.fail(f'this line has {NAMED_BYTES[char]}{ending}')
             if not ' ' <= char <= '~':
-                self.fail('this line has %r, which is outside of printable ASCII' % char)
+                self.fail(f'this line has {char!r}, which is outside of printable ASCII')
         if '' in self.words:
             self.fail('this line has a leading, trailing or doubled space')
 
@@ -77,7 +78,7 @@ def read_text(name: str) -> str:
     return read_bytes(name).decode('utf-8', 'replace')
 
 
-def lines_of(text: str, name: str) -> List[Line]:
+def lines_of(text: str, name: str) -> list[Line]:
     """The lines of a text. A last line without its line feed is complained of, since `snp` refuses it."""
     parts = text.split('\n')
     if parts[-1]:
@@ -114,14 +115,14 @@ def need_number(line: Line, word: str, what: str, least: int = 0, most: int = (1
     """The number of a word that should be one, within its range."""
     value = number_of(word)
     if value is None:
-        line.fail('%s should be a number (decimal, or 0x and 1 to 16 lower-case digits, below 2^64), and is `%s`' % (what, word))
+        line.fail(f'{what} should be a number (decimal, or 0x and 1 to 16 lower-case digits, below 2^64), and is `{word}`')
     if not least <= value <= most:
-        line.fail('%s should be %s to %s, and is %s' % (what, least, most, word))
+        line.fail(f'{what} should be {least} to {most}, and is {word}')
     return value
 
 
 def hex_of(value: int) -> str:
-    return '0x%x' % value
+    return f'0x{value:x}'
 
 
 def page_of(gpn: int) -> str:

@@ -9,7 +9,6 @@ it. Accesses and walks ignore locks. What the instructions of guests do is held 
 from __future__ import annotations
 
 from dataclasses import dataclass
-from typing import Dict, FrozenSet, List, Set, Tuple
 
 from .commands import COMMANDS, frames_of
 from .entries import LARGE, frames_from, meet
@@ -17,9 +16,9 @@ from .report import Event
 from .scenario import ACCESSES, Actor, Item, Scenario
 from .updates import INSTRUCTIONS, bad_operands
 
-Place = Tuple[int, int]
-Ranges = Tuple[range, ...]
-NO_GUESTS: FrozenSet[int] = frozenset()
+Place = tuple[int, int]
+Ranges = tuple[range, ...]
+NO_GUESTS: frozenset[int] = frozenset()
 
 
 def any_meet(left: Ranges, right: Ranges) -> bool:
@@ -32,16 +31,16 @@ class Touch:
     it looks at, and changes with their words; those whose locks it looks at, and takes or releases; and the same of guests'
     states and of the locks of their contexts. It is `own` where it touches its actor alone, and `everything` where nothing is
     known."""
-    reads: FrozenSet[Place] = frozenset()
-    writes: FrozenSet[Place] = frozenset()
+    reads: frozenset[Place] = frozenset()
+    writes: frozenset[Place] = frozenset()
     looks: Ranges = ()
     changes: Ranges = ()
     asks: Ranges = ()
     takes: Ranges = ()
-    sees: FrozenSet[int] = NO_GUESTS
-    turns: FrozenSet[int] = NO_GUESTS
-    asks_contexts: FrozenSet[int] = NO_GUESTS
-    takes_contexts: FrozenSet[int] = NO_GUESTS
+    sees: frozenset[int] = NO_GUESTS
+    turns: frozenset[int] = NO_GUESTS
+    asks_contexts: frozenset[int] = NO_GUESTS
+    takes_contexts: frozenset[int] = NO_GUESTS
     own: bool = False
     everything: bool = False
 
@@ -106,7 +105,7 @@ def command_ranges(scenario: Scenario, item: Item) -> Ranges:
                  for frame in frames_of(item) if frame < scenario.frames)
 
 
-def command_guests(scenario: Scenario, item: Item) -> FrozenSet[int]:
+def command_guests(scenario: Scenario, item: Item) -> frozenset[int]:
     """The guest that a command names, if it is declared."""
     return frozenset(item.operands[:1]) & frozenset(scenario.guests) if COMMANDS[item.word].states else NO_GUESTS
 
@@ -132,21 +131,21 @@ def command_touch(scenario: Scenario, event: Event, item: Item) -> Touch:
 @dataclass(frozen=True)
 class Bound:
     """At most this is touched by the rest of a script."""
-    reads: FrozenSet[Place] = frozenset()
-    writes: FrozenSet[Place] = frozenset()
+    reads: frozenset[Place] = frozenset()
+    writes: frozenset[Place] = frozenset()
     # words of any frame at these places in it, as a guest with tables of its own may write
-    writes_at: FrozenSet[int] = frozenset()
+    writes_at: frozenset[int] = frozenset()
     # whether a walk may read any free frame, and any assigned one
     walks: bool = False
     walks_assigned: bool = False
     # the ranges of frames whose entries, words and locks an RMPUPDATE, a PSMASH or a command may look at and change
-    updates: FrozenSet[range] = frozenset()
+    updates: frozenset[range] = frozenset()
     # the guests whose state it may look at, and those whose context and state it may lock and change
-    sees: FrozenSet[int] = NO_GUESTS
-    contexts: FrozenSet[int] = NO_GUESTS
+    sees: frozenset[int] = NO_GUESTS
+    contexts: frozenset[int] = NO_GUESTS
     everything: bool = False
 
-    def commutes(self, touch: Touch, assigned: Set[int]) -> bool:
+    def commutes(self, touch: Touch, assigned: set[int]) -> bool:
         """Whether an event commutes with all that this rest of a script may do."""
         if touch.own:
             return True
@@ -200,9 +199,9 @@ def joined(left: Bound, right: Bound) -> Bound:
                  left.contexts | right.contexts, left.everything or right.everything)
 
 
-def bounds_of(scenario: Scenario) -> Dict[int, List[Bound]]:
+def bounds_of(scenario: Scenario) -> dict[int, list[Bound]]:
     """For each actor and each of its items what the script may touch from that item on, and at last nothing."""
-    made: Dict[int, List[Bound]] = {}
+    made: dict[int, list[Bound]] = {}
     for actor in scenario.actors.values():
         rest = [Bound()]
         for item in reversed(actor.items):
@@ -211,7 +210,7 @@ def bounds_of(scenario: Scenario) -> Dict[int, List[Bound]]:
     return made
 
 
-def assigned_frames(scenario: Scenario) -> Set[int]:
+def assigned_frames(scenario: Scenario) -> set[int]:
     """The frames that are assigned at the opening and stay so: no RMPUPDATE may take them."""
     taken = {frame for actor in scenario.actors.values() for item in actor.items if item.word == 'rmpupdate'
              and bad_operands(item, scenario.frames) is None for frame in item.frames}

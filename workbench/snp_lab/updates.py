@@ -5,7 +5,7 @@ The rows are decided by the entries and locks that scenario and report tell, and
 from __future__ import annotations
 
 from dataclasses import dataclass
-from typing import Optional, Tuple
+from typing import Optional
 
 from . import codes
 from .codes import Row
@@ -27,38 +27,38 @@ class Refusal:
     because: str
 
 
-def bad_update(item: Item, frames: int) -> Optional[Tuple[Row, str]]:
+def bad_update(item: Item, frames: int) -> Optional[tuple[Row, str]]:
     """The test that the operands of an RMPUPDATE fail, before any entry is looked at."""
     frame, size, assigned, asid, gpn, immutable = item.operands
     if frame >= frames:
         return codes.BAD_UPDATE[0], outside_words(frame, frames)
     if size == 2 and frame % 512:
-        return codes.BAD_UPDATE[1], '2 MB are asked, and frame %d is no multiple of 512' % frame
+        return codes.BAD_UPDATE[1], f'2 MB are asked, and frame {frame} is no multiple of 512'
     if size == 2 and assigned and (gpn % 512 or not asid):
-        return codes.BAD_UPDATE[2], '2 MB are asked as assigned, with %s' % (
-            'the ASID 0' if not asid else 'page %s, which is no multiple of 512' % page_of(gpn))
+        why = 'the ASID 0' if not asid else f'page {page_of(gpn)}, which is no multiple of 512'
+        return codes.BAD_UPDATE[2], f'2 MB are asked as assigned, with {why}'
     if not assigned and (asid or gpn or immutable):
         asked = ['an ASID'] * bool(asid) + ['a page number'] * bool(gpn) + ['Immutable'] * bool(immutable)
-        return codes.BAD_UPDATE[3], 'the page is to be free, and %s is asked' % ' and '.join(asked)
+        return codes.BAD_UPDATE[3], f"the page is to be free, and {' and '.join(asked)} is asked"
     if assigned and not asid and gpn:
-        return codes.BAD_UPDATE[4], 'an ASID of 0 is asked with the page number %s' % page_of(gpn)
+        return codes.BAD_UPDATE[4], f'an ASID of 0 is asked with the page number {page_of(gpn)}'
     return None
 
 
-def bad_smash(item: Item, frames: int) -> Optional[Tuple[Row, str]]:
+def bad_smash(item: Item, frames: int) -> Optional[tuple[Row, str]]:
     """The same of a PSMASH."""
     frame = item.operands[0]
     if frame >= frames:
         return codes.SMASH[0], outside_words(frame, frames)
-    return (codes.SMASH[0], 'frame %d is no multiple of 512' % frame) if frame % 512 else None
+    return (codes.SMASH[0], f'frame {frame} is no multiple of 512') if frame % 512 else None
 
 
-def bad_operands(item: Item, frames: int) -> Optional[Tuple[Row, str]]:
+def bad_operands(item: Item, frames: int) -> Optional[tuple[Row, str]]:
     return bad_update(item, frames) if item.word == 'rmpupdate' else bad_smash(item, frames)
 
 
 def outside_words(frame: int, frames: int) -> str:
-    return 'frame %d is outside memory, which has %d frames' % (frame, frames)
+    return f'frame {frame} is outside memory, which has {frames} frames'
 
 
 def refusal_of(watch: Watch, item: Item) -> Optional[Refusal]:
@@ -70,7 +70,7 @@ def refusal_of(watch: Watch, item: Item) -> Optional[Refusal]:
     held = watch.holder(item.frames if is_update else item.frames[:1])
     if held is not None:
         row = (codes.UPDATE if is_update else codes.SMASH)[1]
-        return Refusal('rc 3 by %d' % held[1].actor, row, watch.holder_words(*held))
+        return Refusal(f'rc 3 by {held[1].actor}', row, watch.holder_words(*held))
     return update_refusal(watch, item) if is_update else smash_refusal(watch, item)
 
 
@@ -82,8 +82,8 @@ def update_refusal(watch: Watch, item: Item) -> Optional[Refusal]:
         return Refusal('rc 4', codes.UPDATE[2], '4 KB are asked, and ' + cause(watch, item.operands[0]))
     assigned = watch.rmp.first(item.frames, 'assigned')
     if item.operands[1] == 2 and not is_large and assigned is not None:
-        return Refusal('rc 4', codes.UPDATE[2], '2 MB are asked, %s are no page of 2 MB, and %s' % (
-            frames_words(item.frames), cause(watch, assigned)))
+        return Refusal('rc 4', codes.UPDATE[2], (f'2 MB are asked, {frames_words(item.frames)} are no page of 2 MB, and '
+                                                 f'{cause(watch, assigned)}'))
     immutable = watch.rmp.first(item.frames, 'immutable')
     return Refusal('rc 2', codes.UPDATE[3], cause(watch, immutable)) if immutable is not None else None
 
@@ -120,12 +120,12 @@ def row_of_status(event: Event, item: Item) -> Optional[Row]:
 def lock_fault(event: Event, attempt: Attempt, item: Item, refusal: Optional[Refusal], known: bool) -> str:
     """What a lock event should be by the scenario, where it is another one."""
     if int(event.deed[1]) != item.operands[0]:
-        return 'the lock of frame %d' % item.operands[0]
+        return f'the lock of frame {item.operands[0]}'
     if attempt.events:
         return 'a `commit`, since the lock is taken'
     expected = refusal.answer if refusal is not None else ''
     if known and expected != event.answer:
-        return '`%s`' % expected if expected else 'let through'
+        return f'`{expected}`' if expected else 'let through'
     return ''
 
 
@@ -138,8 +138,8 @@ def commit_fault(watch: Watch, event: Event, attempt: Attempt, item: Item) -> st
         return ''
     gpn = item.operands[4] if item.word == 'rmpupdate' else facts.gpn if facts is not None else 0
     size = '2m' if len(item.frames) > 1 else '4k'
-    wanted = 'commit %d %s %s rc 0' % (item.operands[0], hex_of(gpn), size)
-    return '' if ' '.join(event.deed + event.outcome) == wanted else '`%s`' % wanted
+    wanted = f'commit {item.operands[0]} {hex_of(gpn)} {size} rc 0'
+    return '' if ' '.join(event.deed + event.outcome) == wanted else f'`{wanted}`'
 
 
 def range_words(watch: Watch, frames: range) -> str:
@@ -148,7 +148,7 @@ def range_words(watch: Watch, frames: range) -> str:
     if len(frames) == 1:
         return watch.entry_words(frames.start)
     if facts is not None and facts.is_large:
-        return '%s, with the 511 behind it' % watch.entry_words(frames.start)
+        return f'{watch.entry_words(frames.start)}, with the 511 behind it'
     assigned = watch.rmp.first(frames, 'assigned')
     if assigned is None:
         return 'they are nobody\'s' if watch.rmp.are_known(frames) else 'the report doesn\'t tell all of their entries'
@@ -159,22 +159,22 @@ def lock_words(watch: Watch, event: Event, item: Item) -> str:
     """What is asked for, or taken."""
     verb = 'asks for the lock of' if event.outcome else 'takes the lock of'
     if item.operands[0] >= watch.scenario.frames:
-        return '%s frame %d' % (verb, item.operands[0])
+        return f'{verb} frame {item.operands[0]}'
     frames = watch.lock_frames(item, item.operands[0])
-    return '%s %s; %s' % (verb, frames_words(frames), range_words(watch, frames))
+    return f'{verb} {frames_words(frames)}; {range_words(watch, frames)}'
 
 
 def commit_words(watch: Watch, item: Item) -> str:
     """What a commit changes, by its cases."""
     named = frames_words(item.frames)
     if item.word == 'psmash':
-        return '%s become 512 pages of 4 KB, each with the page number that it had, and all else the same; %s' % (named, RELEASED)
+        return f'{named} become 512 pages of 4 KB, each with the page number that it had, and all else the same; {RELEASED}'
     old = watch.facts_of(item.operands[0])
     verb = 'becomes' if len(item.frames) == 1 else 'become'
     if old is not None and makes_immutable(item, old):
-        return '%s %s immutable; all else stays, the words too; %s' % (named, verb, RELEASED)
+        return f'{named} {verb} immutable; all else stays, the words too; {RELEASED}'
     words = '' if old is None else 'the words become zero; ' if old.assigned else 'the words stay, since nobody owned them; '
-    return '%s %s %s; %s%s' % (named, verb, new_words(watch, item), words, RELEASED)
+    return f'{named} {verb} {new_words(watch, item)}; {words}{RELEASED}'
 
 
 def new_words(watch: Watch, item: Item) -> str:
@@ -183,6 +183,6 @@ def new_words(watch: Watch, item: Item) -> str:
     if not facts.assigned:
         return 'free'
     if facts.asid == 0:
-        return 'the firmware\'s (%s)' % facts.state
+        return f"the firmware's ({facts.state})"
     what = 'the page of 2 MB at page %s' if is_whole(item.frames) else 'page %s'
-    return '%s of %s, not validated%s' % (what % page_of(facts.gpn), watch.guest_name(facts.asid), ', immutable' * facts.immutable)
+    return f"{what % page_of(facts.gpn)} of {watch.guest_name(facts.asid)}, not validated{', immutable' * facts.immutable}"

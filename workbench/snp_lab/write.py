@@ -3,12 +3,12 @@ from __future__ import annotations
 
 import re
 from dataclasses import dataclass, field
-from typing import Callable, Dict, List, Optional, Set, Tuple
+from collections.abc import Callable
 
 from . import order
 from .entries import LARGE
 from .program import Program
-from .scenario import ACCESSES, FRAMES_OF, OPERANDS
+from .scenario import ACCESSES, FORMS, FRAMES_OF, OPERANDS
 from .texts import Complaint, Line, hex_of, lines_of, number_of
 
 NAME = re.compile(r'[a-z][a-z0-9_]*\Z')
@@ -17,18 +17,19 @@ RANGE = re.compile(r'([^.]+)\.\.([^.]+)\Z')
 MAP = re.compile(r'map (\S+) root (\S+): (\S+) -> (\S+)( 2m)?( read-only)?\Z')
 SECTIONS = {'snp': 0, 'regions': 1, 'frame': 2, 'guest': 3, 'page': 4, 'word': 5, 'map': 5, 'actor': 6, 'order': 7, 'end': 8}
 KEY = '0' * 64
+MOST_TRIES = 64
 # What stands for the number of a frame that no line gives, of one frame and of the first of 512, until all others are known.
 UNNUMBERED = {'': -1, '2m': -2}
 KEPT_WORDS = frozenset('''snp regions frame guest page word map root actor order end opened new firmware asid iv key of at valid invalid cpu host
-fw vmpl npt flat gcr3 la57 skip if ok bad value retry read'''.split()) | frozenset(OPERANDS)
+fw vmpl npt flat gcr3 la57 skip if ok bad value retry tries read'''.split()) | frozenset(OPERANDS)
 
 
 @dataclass
 class Entry:
     """A line of the short text with the comments above it, and what becomes of it."""
     line: Line
-    comments: List[str]
-    plain: List[str] = field(default_factory=list)
+    comments: list[str]
+    plain: list[str] = field(default_factory=list)
 
     @property
     def first(self) -> str:
@@ -39,12 +40,12 @@ class Entry:
 class Draft:
     """A scenario in the making."""
     name: str
-    top: List[str] = field(default_factory=list)
-    entries: List[Entry] = field(default_factory=list)
-    frames: Dict[str, int] = field(default_factory=dict)
-    used: Set[int] = field(default_factory=set)
-    tables: Dict[Tuple[int, int], int] = field(default_factory=dict)
-    leaves: Dict[Tuple[int, int], Tuple[int, int]] = field(default_factory=dict)
+    top: list[str] = field(default_factory=list)
+    entries: list[Entry] = field(default_factory=list)
+    frames: dict[str, int] = field(default_factory=dict)
+    used: set[int] = field(default_factory=set)
+    tables: dict[tuple[int, int], int] = field(default_factory=dict)
+    leaves: dict[tuple[int, int], tuple[int, int]] = field(default_factory=dict)
     highest: int = 0
 
     def free_range(self) -> int:
@@ -65,11 +66,10 @@ class Draft:
             return self.frames[word]
         found = CALL.match(word)
         if found is None:
-            line.fail('`%s` is neither a number nor a named frame; `frame %s 9` would name one'
-                      % (word, word if NAME.match(word) else 'NAME'))
+            line.fail(f"`{word}` is neither a number nor a named frame; `frame {word if NAME.match(word) else 'NAME'} 9` would name one")
         call = CALLS.get(found.group(1))
         if call is None:
-            line.fail('`%s` is no call: %s are' % (found.group(1), ', '.join(CALLS)))
+            line.fail(f"`{found.group(1)}` is no call: {', '.join(CALLS)} are")
         return call(self, line, [self.value(line, part) for part in found.group(2).split(',')])
 
     def plain_word(self, line: Line, word: str) -> str:
@@ -101,59 +101,65 @@ class Draft:
         found = RANGE.match(word)
         first, last = (self.value(line, part) for part in (found.groups() if found else (word, word)))
         if last < first:
-            line.fail('`%s` goes backwards' % word)
+            line.fail(f'`{word}` goes backwards')
         if last - first >= 1 << 16:
-            line.fail('`%s` has more than 65536 pages' % word)
+            line.fail(f'`{word}` has more than 65536 pages')
         return range(first, last + 1)
 
 
-def call_addr(draft: Draft, line: Line, parts: List[int]) -> int:
+def call_addr(draft: Draft, line: Line, parts: list[int]) -> int:
     need_parts(line, 'addr(FRAME,INDEX)', parts, 2, 2)
     return 4096 * parts[0] + 8 * parts[1]
 
 
-def call_entry(draft: Draft, line: Line, parts: List[int]) -> int:
+def call_entry(draft: Draft, line: Line, parts: list[int]) -> int:
+    """Bits 0 to 2 (present, writable, user), or the bits that are given."""
     need_parts(line, 'entry(FRAME)', parts, 1, 2)
     return 4096 * parts[0] + (parts[1] if len(parts) == 2 else 7)
 
 
-def call_large(draft: Draft, line: Line, parts: List[int]) -> int:
+def call_large(draft: Draft, line: Line, parts: list[int]) -> int:
+    """Bits 0 to 2 (present, writable, user) and 7 (a page of 2 MB)."""
     need_parts(line, 'large(FRAME)', parts, 1, 1)
     return 4096 * parts[0] + 0x87
 
 
-def call_private(draft: Draft, line: Line, parts: List[int]) -> int:
+def call_private(draft: Draft, line: Line, parts: list[int]) -> int:
+    """Bits 0 and 1 (present, writable) and 51 (private)."""
     need_parts(line, 'private(PAGE)', parts, 1, 1)
     return 4096 * parts[0] + 3 + (1 << 51)
 
 
-def call_shared(draft: Draft, line: Line, parts: List[int]) -> int:
+def call_shared(draft: Draft, line: Line, parts: list[int]) -> int:
+    """Bits 0 and 1 (present, writable)."""
     need_parts(line, 'shared(PAGE)', parts, 1, 1)
     return 4096 * parts[0] + 3
 
 
-def call_leaf(draft: Draft, line: Line, parts: List[int]) -> int:
+def call_leaf(draft: Draft, line: Line, parts: list[int]) -> int:
     need_parts(line, 'leaf(ROOT,PAGE)', parts, 2, 2)
     place = draft.leaves.get((parts[0], parts[1]))
     if place is None:
-        line.fail('no `map` line with root %d has page %s' % (parts[0], hex_of(parts[1])))
+        line.fail(f'no `map` line with root {parts[0]} has page {hex_of(parts[1])}')
     return 4096 * place[0] + 8 * place[1]
 
 
-CALLS: Dict[str, Callable[[Draft, Line, List[int]], int]] = {
+BITS = {'entry': 'bits 0 (present), 1 (writable) and 2 (user)', 'large': 'bits 0 (present), 1 (writable), 2 (user) and 7 (a page of 2 MB)',
+        'private': 'bits 0 (present), 1 (writable) and 51 (private)', 'shared': 'bits 0 (present) and 1 (writable)'}
+CALLS: dict[str, Callable[[Draft, Line, list[int]], int]] = {
     'addr': call_addr, 'entry': call_entry, 'large': call_large, 'leaf': call_leaf, 'private': call_private,
     'shared': call_shared}
 
 
-def need_parts(line: Line, form: str, parts: List[int], least: int, most: int) -> None:
+def need_parts(line: Line, form: str, parts: list[int], least: int, most: int) -> None:
     if not least <= len(parts) <= most:
-        line.fail('this should be `%s`' % form)
+        line.fail(f'this should be `{form}`')
 
 
 def take_apart(text: str, name: str) -> Draft:
     """The lines of a short text, each with the comments above it."""
     draft = Draft(name)
-    comments: List[str] = []
+    comments: list[str] = []
     for line in lines_of(text, name):
         if line.is_passed_over:
             comments.append(line.text)
@@ -175,16 +181,16 @@ def read_names(draft: Draft) -> None:
         if len(words) not in (2, 3):
             entry.line.fail('`frame NAME F` names frame F, `frame NAME` one that no other line names, and `frame NAME 2m` the first of 512')
         if not NAME.match(words[1]) or words[1] in KEPT_WORDS or words[1] in CALLS:
-            entry.line.fail('`%s` can\'t be a name: names are lower-case letters, digits and `_`, and no words of scenarios' % words[1])
+            entry.line.fail(f"`{words[1]}` can't be a name: names are lower-case letters, digits and `_`, and no words of scenarios")
         if words[1] in draft.frames:
-            entry.line.fail('`%s` is named twice' % words[1])
+            entry.line.fail(f'`{words[1]}` is named twice')
         unnumbered = UNNUMBERED.get(' '.join(words[2:]))
         draft.frames[words[1]] = draft.value(entry.line, words[2]) if unnumbered is None else unnumbered
         if unnumbered is None:
             draft.use(draft.frames[words[1]])
 
 
-def frame_words(entry: Entry) -> Tuple[List[str], bool]:
+def frame_words(entry: Entry) -> tuple[list[str], bool]:
     """The words of a line that name frames, and whether the line is of pages of 2 MB."""
     words = entry.line.words
     if entry.first in ('page', 'word') and len(words) > 1:
@@ -227,22 +233,22 @@ def note_large_map(draft: Draft, line: Line, word: str) -> None:
         draft.use_all(range(first, first + LARGE))
 
 
-def next_table(draft: Draft, line: Line, table: int, index: int, is_leaf_level: bool) -> Tuple[int, List[str]]:
+def next_table(draft: Draft, line: Line, table: int, index: int, is_leaf_level: bool) -> tuple[int, list[str]]:
     """The table below a word, and the line that makes it where it isn't there."""
-    lines: List[str] = []
+    lines: list[str] = []
     below = draft.tables.get((table, index))
     if below is None:
         below = 4096 * draft.free_frame(table) + 7
         draft.tables[table, index] = below
-        lines.append('word %d %d %s' % (table, index, hex_of(below)))
+        lines.append(f'word {table} {index} {hex_of(below)}')
     if not below & 1 or is_leaf_level and below & 0x80:
-        line.fail('word %d of frame %d is %s, which leads to no table' % (index, table, hex_of(below)))
+        line.fail(f'word {index} of frame {table} is {hex_of(below)}, which leads to no table')
     return below >> 12 & (1 << 36) - 1, lines
 
 
-def map_page(draft: Draft, line: Line, root: int, gpn: int, entry: int, level: int = 1) -> List[str]:
+def map_page(draft: Draft, line: Line, root: int, gpn: int, entry: int, level: int = 1) -> list[str]:
     """The words that map one page by an entry at a level, with the tables that it needs and that aren't there."""
-    lines: List[str] = []
+    lines: list[str] = []
     table = root
     for above in range(4, level, -1):
         table, made = next_table(draft, line, table, gpn // 512 ** (above - 1) % 512, above == 2)
@@ -250,11 +256,11 @@ def map_page(draft: Draft, line: Line, root: int, gpn: int, entry: int, level: i
     pages = range(gpn, gpn + 512 ** (level - 1))
     twice = next((page for page in pages if (root, page) in draft.leaves), None)
     if twice is not None:
-        line.fail('page %s is mapped twice under root %d' % (hex_of(twice), root))
+        line.fail(f'page {hex_of(twice)} is mapped twice under root {root}')
     index = gpn // 512 ** (level - 1) % 512
     draft.leaves.update(((root, page), (table, index)) for page in pages)
     draft.tables[table, index] = entry
-    return lines + ['word %d %d %s' % (table, index, hex_of(entry))]
+    return lines + [f'word {table} {index} {hex_of(entry)}']
 
 
 def write_map(draft: Draft, entry: Entry) -> None:
@@ -267,10 +273,10 @@ def write_map(draft: Draft, entry: Entry) -> None:
     declared = [draft.value(other.line, other.line.words[1]) for other in draft.entries
                 if other.first == 'guest' and len(other.line.words) > 1]
     if guest not in declared:
-        line.fail('guest %d isn\'t declared' % guest)
+        line.fail(f"guest {guest} isn't declared")
     pages, frames = draft.span(line, found.group(3)), draft.span(line, found.group(4))
     if len(pages) != len(frames):
-        line.fail('%d pages are mapped to %d frames' % (len(pages), len(frames)))
+        line.fail(f'{len(pages)} pages are mapped to {len(frames)} frames')
     bits = 5 if found.group(6) else 7
     if found.group(5):
         if len(pages) > 1 or pages[0] % LARGE or frames[0] % LARGE:
@@ -297,14 +303,14 @@ def write_page(draft: Draft, entry: Entry) -> None:
     words = words + ['4k', 'valid', '0', '0', '0'][len(words) - 6:]
     frames, first = draft.span(line, words[1]), draft.span(line, words[5])
     if len(first) not in (1, len(frames)):
-        line.fail('%d frames are %d pages' % (len(frames), len(first)))
+        line.fail(f'{len(frames)} frames are {len(first)} pages')
     if len(frames) > 1 and words[6] == '2m':
         line.fail('a page of 2 MB is told by the first of its frames alone')
     if len(frames) == 1:
         entry.plain = [' '.join(words[:1] + [draft.plain_word(line, word) for word in words[1:]])]
         return
     for k, frame in enumerate(frames):
-        entry.plain.append('page %d of %s at %s %s' % (frame, draft.plain_word(line, words[3]), hex_of(first[0] + k), ' '.join(words[6:])))
+        entry.plain.append(f"page {frame} of {draft.plain_word(line, words[3])} at {hex_of(first[0] + k)} {' '.join(words[6:])}")
 
 
 def write_update(draft: Draft, entry: Entry) -> None:
@@ -349,7 +355,7 @@ def asid_of(draft: Draft, line: Line, word: str) -> str:
         words = other.line.words
         if other.first == 'guest' and len(words) > 4 and number_of(words[1]) == guest:
             return words[4]
-    line.fail('guest %d isn\'t declared' % guest)
+    line.fail(f"guest {guest} isn't declared")
 
 
 def note_word(draft: Draft, entry: Entry) -> None:
@@ -363,6 +369,20 @@ def note_word(draft: Draft, entry: Entry) -> None:
 def write_plain(draft: Draft, entry: Entry) -> None:
     words = entry.line.words
     entry.plain = [' '.join(words[:1] + [draft.plain_word(entry.line, word) for word in words[1:]])]
+
+
+def write_tries(draft: Draft, entry: Entry) -> None:
+    """An access that is made again where a fault ends it: copies, each behind a skip over all that are left if the last one was good."""
+    line, words = entry.line, entry.line.words
+    many = number_of(words[-1]) if words[-2] == 'tries' else None
+    if many is None or not 2 <= many <= MOST_TRIES or len(words) - 2 != OPERANDS[words[0]] + 1:
+        line.fail(f'`tries N` ends an access, and N is 2 to {MOST_TRIES}, as in `load 0x10 tries 3`')
+    if words[0] == 'cas':
+        line.fail('a `cas` that finds another word is bad too, and would be made again: `tries` is for other accesses')
+    plain = ' '.join(words[:1] + [draft.plain_word(line, word) for word in words[1:-2]])
+    for left in range(many - 1, 0, -1):
+        entry.plain += [plain, f'skip {2 * left - 1} if ok']
+    entry.plain.append(plain)
 
 
 def section(entry: Entry, before: int) -> int:
@@ -389,11 +409,13 @@ def write_entries(draft: Draft) -> None:
             write_update(draft, entry)
         elif entry.first == 'launch_update':
             write_launch(draft, entry)
+        elif entry.first in ACCESSES and 'tries' in entry.line.words:
+            write_tries(draft, entry)
         elif entry.first not in ('map', 'frame', 'order'):
             write_plain(draft, entry)
 
 
-def completed(draft: Draft) -> List[Entry]:
+def completed(draft: Draft) -> list[Entry]:
     """The entries in the order of a scenario, with `snp`, `regions` and `end` where they are left out."""
     firsts = [entry.first for entry in draft.entries]
     made = list(draft.entries)
@@ -401,25 +423,39 @@ def completed(draft: Draft) -> List[Entry]:
     def add(text: str) -> None:
         made.append(Entry(Line(draft.name, 0, text), [], [text]))
 
+    old = next((entry for entry in draft.entries if entry.line.text == 'snp 1'), None)
+    deep = next((entry for entry in draft.entries if entry.first == 'actor' and 'la57' in entry.line.words), None)
+    if old is not None and deep is not None:
+        deep.line.fail(f'`la57` is a word of version 2, and line {old.line.number} says `snp 1`: say `snp 2`, or leave that line out')
     if 'snp' not in firsts:
-        add('snp %d' % (2 if any('la57' in entry.line.words for entry in draft.entries) else 1))
+        add(f"snp {2 if any('la57' in entry.line.words for entry in draft.entries) else 1}")
     if 'regions' not in firsts:
-        add('regions %d' % (draft.highest // 512 + 1))
+        add(f'regions {draft.highest // 512 + 1}')
     if 'end' not in firsts:
         add('end')
     for entry in made:
         if entry.first not in SECTIONS and entry.first not in OPERANDS and entry.first != 'skip':
-            entry.line.fail('`%s` begins no line of a scenario, short or plain' % entry.first)
+            entry.line.fail(f'`{entry.first}` begins no line of a scenario, short or plain')
     return sorted(made, key=lambda entry: SECTIONS.get(entry.first, SECTIONS['actor']))
 
 
-def text_of(entries: List[Entry]) -> List[str]:
+def bits_of(line: Line) -> list[tuple[str, str]]:
+    """The words of a line that are entries of tables, with the bits that they set beside the frame or page."""
+    calls = [(word, CALL.match(word)) for word in line.words]
+    if line.words[0] not in ('word', *FORMS):
+        return []
+    return [(word, BITS[found.group(1)]) for word, found in calls if found is not None and found.group(1) in BITS
+            and not (found.group(1) == 'entry' and ',' in word)]
+
+
+def text_of(entries: list[Entry]) -> list[str]:
     """The lines of entries, each with its short form in a comment where that differs."""
-    lines: List[str] = []
+    lines: list[str] = []
     for entry in entries:
         lines += entry.comments
         if entry.plain != [entry.line.text]:
             lines.append('# ' + entry.line.text)
+            lines += [f'#   {word} sets {bits}' for word, bits in bits_of(entry.line)]
         lines += entry.plain
     return lines
 
@@ -432,9 +468,7 @@ def written(text: str, name: str, program: Callable[[], Program]) -> str:
     write_entries(draft)
     entries = completed(draft)
     head = draft.top + text_of([entry for entry in entries if entry.first not in ('order', 'end')])
-    planner: Optional[order.Planner] = None
-    for entry in entries:
-        if entry.first == 'order':
-            planner = planner or order.Planner(head, program)
-            entry.plain = planner.take(entry.line)
+    ordered = [entry for entry in entries if entry.first == 'order']
+    for entry, plain in zip(ordered, order.Planner(head, name, program).plain([entry.line for entry in ordered])):
+        entry.plain = plain
     return '\n'.join(head + text_of([entry for entry in entries if entry.first in ('order', 'end')])) + '\n'

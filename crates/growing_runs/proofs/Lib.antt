@@ -1,9 +1,12 @@
+pub mod AppendLaws
 pub mod DisciplineWith
 pub mod DriveLaws
 pub mod DuelLaws
 pub mod EndLaws
 pub mod ExtendingLaws
 pub mod GrownRuns
+pub mod GrownSound
+pub mod InsideLaws
 pub mod LiveLaws
 pub mod PlainLaws
 pub mod SimulateLaws

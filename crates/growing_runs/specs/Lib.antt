@@ -1,4 +1,5 @@
 pub mod Drives
 pub mod Duels
 pub mod Extending
+pub mod GoingOn
 pub mod Plain

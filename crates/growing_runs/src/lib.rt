@@ -5,5 +5,8 @@
 mod law;
 mod sight;
 
-pub use law::{disciplined_scripts, ended_scripts, extended_scripts, plain_scripts};
+pub use law::{
+    disciplined_scripts, ended_scripts, extended_scripts, grown_scenarios, inside_accesses,
+    kept_scripts, plain_scripts,
+};
 pub use sight::{Duel, Sight};

@@ -7,7 +7,7 @@ ghost use Rattle.guest_memory.specs.Uses.{asked_by, can_belong, is_commit, is_co
 use snp_model::{Deed, Item, Op, Outcome, PageSize};
 
 /// Whether an outcome, if there is one, can belong to an item at a deed.
-pub(crate) fn may_belong(outcome: &Option<Outcome>, deed: &Deed, item: &Item) -> bool
+pub fn may_belong(outcome: &Option<Outcome>, deed: &Deed, item: &Item) -> bool
     ensures { result ≡ may_belong outcome.now deed.now item.now }
 {
     match outcome {

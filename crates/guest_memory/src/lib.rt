@@ -13,4 +13,5 @@ mod pages;
 mod tests;
 
 pub use fault::ApplyFault;
+pub use item::may_belong;
 pub use memory::GuestMemory;

@@ -4,9 +4,11 @@
 mod driver;
 mod dueling;
 mod ring;
+mod shipped;
 #[cfg(test)]
 mod tests;
 
 pub use driver::{Asks, drive};
 pub use dueling::{Acts, Duelists, Strategy, duel};
 pub use ring::{Ring, Turns};
+pub use shipped::Shipped;

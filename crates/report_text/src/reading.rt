@@ -74,6 +74,7 @@ fn read_checked(line: &[u8]) -> Option<(u32, u32, Event)>
 /// The number, the actor and the event of a line without its line feed, exactly where `write_line` gives the line for
 /// them, whether or not a run makes that event. Takes no memory.
 pub fn read_line(line: &[u8]) -> Option<(u32, u32, Event)>
+    ensures read { result ≡ read_of line.now }
     ensures written { (k actor : ℕ) (event : Event) → IsLineOf line.now k actor event → result ≡ Some (k, actor, event) }
     ensures every { IfSome result (λ read. line.now ≡ event_text read.0 read.1 read.2) }
 {

@@ -23,7 +23,7 @@ pub fn ranged_events()
         → (part_of (state_after c s) actor).role ≡ roles.Cpu guest vmpl npt paging → IsRanged (event_of (state_after c s) actor).deed }
 {}
 
-/// A guest that runs goes on running, in every run; one that the scenario opens runs from the beginning.
+/// A guest that runs at the opening, as that of an `opened` line does, goes on running in every run.
 pub fn running_guests()
     // The guest of an `opened` line runs at the opening.
     ensures opened { (c : Scenario) (g : ℕ) → is_opened c.guests g ≡ true → ((opening c).contents.contexts g).state ≡ Running }

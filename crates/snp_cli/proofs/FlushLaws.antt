@@ -56,14 +56,44 @@ report_kept to_ends None old mid now reported flushed = tt
 report_kept to_ends (Some text) old mid now reported flushed =
     (reported.0, reported.1, reported_as to_ends reported.0 (Adds old mid) (Adds old now) (λ bytes adds. adds_kept old mid now bytes adds flushed) reported.2)
 
-run_kept : (c : Scenario) (kept : Option Kept) (old mid now : Option (List ℕ)) → ReportsKept c kept old mid → Adds mid now [] → ReportsKept c kept old now
-run_kept c None old mid now reports flushed = absurd reports
-run_kept c (Some kept) old mid now reports flushed = (reports.0, adds_kept old mid now (report_text c.version kept.list kept.guests) reports.1 flushed)
+-- a whole report is a front of itself
+whole_cut : (old now : Option (List ℕ)) (bytes : List ℕ) → Adds old now bytes → AddsPrefix old now bytes
+whole_cut old now bytes adds = record { rest = []; left = record { front = bytes; adds = adds; parts = sym (append-nil bytes) } }
 
-pub fleet_kept : (left : Option (List ℕ)) (kept : Option Kept) (old mid now : Option (List ℕ)) → IfSome left (SaysOne (λ c. 0 < length c.actors → ReportsKept c kept old mid)) → Adds mid now []
-    → IfSome left (SaysOne (λ c. 0 < length c.actors → ReportsKept c kept old now))
-fleet_kept None kept old mid now reports flushed = tt
-fleet_kept (Some text) kept old mid now reports flushed = (reports.0, reports.1, λ some. run_kept reports.0 kept old mid now (reports.2 some) flushed)
+kept_as : (c : Scenario) (opens : Option Scenario) (kept : Option Kept) (P Q : List ℕ → Type 0) → ((bytes : List ℕ) → P bytes → Q bytes) → ReportsKept c opens kept P → ReportsKept c opens kept Q
+kept_as c None kept P Q gives reports = absurd reports
+kept_as c (Some opens) None P Q gives reports = absurd reports
+kept_as c (Some opens) (Some kept) P Q gives reports = (reports.0, record {
+  whole = reports.1.whole;
+  written = gives (report_text c.version kept.list kept.guests) reports.1.written;
+  reported = record {
+    schedule = reports.1.reported.schedule;
+    chosen = reports.1.reported.chosen;
+    defined = reports.1.reported.defined;
+    ordered = reports.1.reported.ordered;
+    legal = reports.1.reported.legal;
+    spelled = reports.1.reported.spelled;
+    written = gives (report_of c reports.1.reported.schedule) reports.1.reported.written;
+  };
+  same = reports.1.same;
+})
+
+-- what a fleet keeps and what is so of its report
+abbrev Fleets : Option (List ℕ) → Option Scenario → Option Kept → (List ℕ → Type 0) → Type 0
+Fleets left opens kept Writes = IfSome left (SaysOne (λ c. 0 < length c.actors → ReportsKept c opens kept Writes))
+
+fleet_as : (left : Option (List ℕ)) (opens : Option Scenario) (kept : Option Kept) (P Q : List ℕ → Type 0) → ((bytes : List ℕ) → P bytes → Q bytes) → Fleets left opens kept P → Fleets left opens kept Q
+fleet_as None opens kept P Q gives reports = tt
+fleet_as (Some text) opens kept P Q gives reports = (reports.0, reports.1, λ some. kept_as reports.0 opens kept P Q gives (reports.2 some))
+
+pub fleet_kept : (left : Option (List ℕ)) (opens : Option Scenario) (kept : Option Kept) (old mid now : Option (List ℕ)) → Fleets left opens kept (Adds old mid) → Adds mid now [] → Fleets left opens kept (Adds old now)
+fleet_kept left opens kept old mid now reports flushed = fleet_as left opens kept (Adds old mid) (Adds old now) (λ bytes adds. adds_kept old mid now bytes adds flushed) reports
+
+pub cut_fleet_kept : (left : Option (List ℕ)) (opens : Option Scenario) (kept : Option Kept) (old mid now : Option (List ℕ)) → Fleets left opens kept (AddsPrefix old mid) → Adds mid now [] → Fleets left opens kept (AddsPrefix old now)
+cut_fleet_kept left opens kept old mid now reports flushed = fleet_as left opens kept (AddsPrefix old mid) (AddsPrefix old now) (λ bytes adds. prefix_kept old mid now bytes adds flushed) reports
+
+pub fleet_cut : (left : Option (List ℕ)) (opens : Option Scenario) (kept : Option Kept) (old mid now : Option (List ℕ)) → Fleets left opens kept (Adds old mid) → Adds mid now [] → Fleets left opens kept (AddsPrefix old now)
+fleet_cut left opens kept old mid now reports flushed = fleet_as left opens kept (Adds old mid) (AddsPrefix old now) (λ bytes adds. whole_cut old now bytes (adds_kept old mid now bytes adds flushed)) reports
 
 pub refusal_kept : (left taken old mid now : Option (List ℕ)) (before between after : ℕ) → SaysRefusal left taken old mid before between → Adds mid now [] → between ≤ after → SaysRefusal left taken old now before after
 refusal_kept left taken old mid now before between after refused flushed later = (refused.0, refused.1, refused.2, line_kept old mid now before between after _ refused.3 flushed later)
@@ -79,10 +109,6 @@ cut_kept to_ends None taken old mid now cut flushed = tt
 cut_kept to_ends (Some text) taken old mid now cut flushed =
     let one = cut.1 in
     (cut.0, (one.0, one.1, reported_as to_ends one.0 (AddsPrefix old mid) (AddsPrefix old now) (λ bytes adds. prefix_kept old mid now bytes adds flushed) one.2))
-
--- a whole report is a front of itself
-whole_cut : (old now : Option (List ℕ)) (bytes : List ℕ) → Adds old now bytes → AddsPrefix old now bytes
-whole_cut old now bytes adds = record { rest = []; left = record { front = bytes; adds = adds; parts = sym (append-nil bytes) } }
 
 pub report_cut : (to_ends : Bool) (left taken old mid now : Option (List ℕ)) → IsRead left taken → IfSome left (SaysOne (λ c. IsReported to_ends c (Adds old mid))) → Adds mid now []
     → ReadsText left taken (SaysOne (λ c. IsReported to_ends c (AddsPrefix old now)))

@@ -46,7 +46,8 @@ pub fn answer<S: Source, W: Write, G: Gate + Sync, F: Fleet, R: Threads + Wait +
     ensures reported { result ≡ 0 → reads_scenario (map string_bytes words.now.items) ≡ true → IfSome (S.left source.old)
         (SaysOne (λ c. IsReported (is_run (map string_bytes words.now.items)) c (Adds sink.old.written sink.new.written))) }
     ensures fleet_keeps { result ≡ 0 → is_run (map string_bytes words.now.items) ≡ true → IfSome (S.left source.old)
-        (SaysOne (λ c. 0 < length c.actors → ReportsKept c (F.kept fleet.new) sink.old.written sink.new.written)) }
+        (SaysOne (λ c. 0 < length c.actors → ReportsKept c (F.opening fleet.new) (F.kept fleet.new) (Adds sink.old.written sink.new.written))) }
+    ensures fleet_untouched { is_run (map string_bytes words.now.items) ≡ false → fleet.new ≡ fleet.old }
 
     ensures digest_written { result ≡ 0 → is_measure (map string_bytes words.now.items) ≡ true → WritesDigest (S.left source.old) (S.left source.new) sink.old.written sink.new.written }
     ensures scenario_drawn { (number : ℕ) → result ≡ 0 → gen_number (map string_bytes words.now.items) ≡ Some number → WritesScenario number sink.old.written sink.new.written }
@@ -80,6 +81,8 @@ pub fn answer<S: Source, W: Write, G: Gate + Sync, F: Fleet, R: Threads + Wait +
     ensures write_failed { result ≡ 6 → Rose sink.old.faults sink.new.faults }
     ensures report_cut { result ≡ 6 → reads_scenario (map string_bytes words.now.items) ≡ true → ReadsText (S.left source.old) (S.left source.new)
         (SaysOne (λ c. IsReported (is_run (map string_bytes words.now.items)) c (AddsPrefix sink.old.written sink.new.written))) }
+    ensures fleet_cut { result ≡ 6 → is_run (map string_bytes words.now.items) ≡ true → IfSome (S.left source.old)
+        (SaysOne (λ c. 0 < length c.actors → ReportsKept c (F.opening fleet.new) (F.kept fleet.new) (AddsPrefix sink.old.written sink.new.written))) }
     ensures digest_cut { result ≡ 6 → is_measure (map string_bytes words.now.items) ≡ true → SaysCutDigest (S.left source.old) (S.left source.new) sink.old.written sink.new.written }
     ensures scenario_cut { (number : ℕ) → result ≡ 6 → gen_number (map string_bytes words.now.items) ≡ Some number → CutsScenario number sink.old.written sink.new.written }
     ensures drill_cut { (number : ℕ) → result ≡ 6 → drill_number (map string_bytes words.now.items) ≡ Some number → CutsDrill number sink.old.written sink.new.written }

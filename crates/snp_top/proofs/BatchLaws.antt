@@ -22,6 +22,7 @@ use Rattle.run_laws.proofs.GuestMemoryLaws.{guests_are_legal}
 use Rattle.run_laws.proofs.OrderedLaws.{run_is_ordered}
 use Rattle.snp_top.specs.declared.fault.CommandFault.{CommandFault}
 use Rattle.snp_top.specs.declared.fault.CommandFault.TheVariants as faults
+use Rattle.snp_top.specs.Runs.{OnCut}
 use Rattle.snp_top.specs.declared.replay.Played.{Played}
 use Rattle.snp_top.specs.Batch.{Explains, ForScenario, Outside, ReportsTo, SaysBadTurn, SaysCutReport, SaysLimit, SaysRefusal, SaysRun, Wrote}
 use Rattle.snp_top.specs.Faults.{error_line, exit_status, status_of}
@@ -73,6 +74,17 @@ exit_between (Err fault) = let between = status_between fault in (between.1, λ 
 pub ok_told : (outcome : Result (Unit {0}) CommandFault) (k : ℕ) (P : Type 0) → k ≡ exit_status outcome → OnOk outcome P → k ≡ 0 → P
 ok_told (Ok done) k P is holds meant = holds
 ok_told (Err fault) k P is holds meant = let between = status_between fault in absurd (omega (arith, meant, is, between.0))
+
+-- so is what holds where the sink failed
+pub cut_told : (outcome : Result (Unit {0}) CommandFault) (k : ℕ) (P : Type 0) → k ≡ exit_status outcome → OnCut outcome P → k ≡ 6 → P
+cut_told (Ok done) k P is holds meant = absurd (omega (arith, meant, is))
+cut_told (Err faults.Write) k P is holds meant = holds
+cut_told (Err faults.Words) k P is holds meant = absurd (omega (arith, meant, is))
+cut_told (Err (faults.Scenario line reason)) k P is holds meant = absurd (omega (arith, meant, is))
+cut_told (Err (faults.Limit quantity count)) k P is holds meant = absurd (omega (arith, meant, is))
+cut_told (Err faults.Read) k P is holds meant = absurd (omega (arith, meant, is))
+cut_told (Err faults.Memory) k P is holds meant = absurd (omega (arith, meant, is))
+cut_told (Err (faults.Schedule turn)) k P is holds meant = absurd (omega (arith, meant, is))
 
 pub told_status : {k : ℕ} {before now : Outside} → Told k before now → (k ≤ 8) × (k ≢ 1)
 told_status told = let P : ℕ → Type 0 = λ n. (n ≤ 8) × (n ≢ 1) in subst P (sym told.status) (exit_between told.outcome)

@@ -55,10 +55,23 @@ pub record IsReported (to_ends : Bool) (c : Scenario) (Writes : List ℕ → Typ
   pub spelled : actors_in (runs_of (actors_of (run_of c schedule))) ≡ schedule
   pub written : Writes (report_of c schedule)
 
--- a whole run of the scenario is kept, and what was written is its report
-abbrev pub ReportsKept : Scenario → Option Kept → Option (List ℕ) → Option (List ℕ) → Type 0
-ReportsKept c (Some kept) old now = IsWhole c kept × Adds old now (report_text c.version kept.list kept.guests)
-ReportsKept c None old now = ⊥
+-- a whole run of the scenario is kept, and this is so of its report. The run that is reported is that one and no other: its
+-- schedule is that of the events which are kept
+pub record IsKeptRun (c : Scenario) (kept : Kept) (Writes : List ℕ → Type 0) : Type 0 where
+  pub whole : IsWhole c kept
+  pub written : Writes (report_text c.version kept.list kept.guests)
+  pub reported : IsReported true c Writes
+  pub same : reported.schedule ≡ actors_of kept.list
+
+-- a fleet's last opening is the scenario, and this is so of the report of the run that it keeps of it
+abbrev pub ReportsKept : Scenario → Option Scenario → Option Kept → (List ℕ → Type 0) → Type 0
+ReportsKept c (Some opens) (Some kept) Writes = (opens ≡ c) × IsKeptRun c kept Writes
+ReportsKept c opens kept Writes = ⊥
+
+-- this is so where the sink failed under the report
+abbrev pub OnCut : Result (Unit {0}) CommandFault → Type 0 → Type 0
+OnCut (Err faults.Write) P = P
+OnCut result P = Unit {0}
 
 -- what came of running a valid scenario's actors to their ends and reporting it; want of memory is free
 abbrev pub RunsOut : Scenario → Option (List ℕ) → Option (List ℕ) → ℕ → ℕ → Result (Unit {0}) CommandFault → Type 0

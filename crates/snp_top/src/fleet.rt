@@ -31,7 +31,8 @@ pub trait Fleet {
     // What it keeps of a run.
     ghost kept: { Self → Option Kept };
 
-    /// Builds the object of a scenario that has an actor, and one pass for each actor, from actor 1 on.
+    /// Builds the object of a scenario that has an actor, and one pass for each actor, from actor 1 on. Where memory is
+    /// refused, the opening and what is kept stay.
     fn build(
         &mut self,
         alloc: Global,
@@ -42,7 +43,8 @@ pub trait Fleet {
         ensures opening { OnOk result (opening self.new ≡ Some scenario.now) }
         ensures kept { OnOk result (kept self.new ≡ None) }
         ensures object { IfOk result (λ built. is_built self.new built.0) }
-        ensures passes { IfOk result (λ built. ArePasses Self.Object.is_of Self.Object.actor_of built.0 (length scenario.now.actors) built.1.items) };
+        ensures passes { IfOk result (λ built. ArePasses Self.Object.is_of Self.Object.actor_of built.0 (length scenario.now.actors) built.1.items) }
+        ensures refused { OnErr result ((opening self.new ≡ opening self.old) × (kept self.new ≡ kept self.old)) };
 
     /// Takes the object and its passes back, steps every actor that isn't finished until all are, and keeps the run. Takes its
     /// memory from the allocator of the build; where it is refused, nothing is kept.

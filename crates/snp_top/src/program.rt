@@ -14,7 +14,7 @@ ghost use Rattle.snp_top.specs.Drills.{CutsDrill, CutsScenario, WritesDrill, Wri
 ghost use Rattle.snp_top.specs.Input.{TakesAtMost};
 ghost use Rattle.snp_top.specs.Measures.{SaysCutDigest, SaysPageRefusal, WritesDigest};
 ghost use Rattle.snp_top.specs.Replays.{IsRead, ReadsText, SaysOne};
-ghost use Rattle.snp_top.specs.Runs.{ExplainsRun, IsReported, ReportsKept, are_commands, is_run, reads_scenario, reads_text};
+ghost use Rattle.snp_top.specs.Runs.{ExplainsRun, IsReported, OnCut, ReportsKept, are_commands, is_run, reads_scenario, reads_text};
 ghost use Rattle.snp_top.specs.Schedule.{IsFirstBad};
 ghost use Rattle.snp_top.specs.Words.{AsksFor};
 
@@ -56,9 +56,11 @@ pub fn snp_main<S: Source, K: Sink, G: Gate + Sync, F: Fleet, R: Threads + Wait 
     ensures reported { result ≡ 0 → reads_scenario (map string_bytes words.now.items) ≡ true → IfSome (S.left source.old)
         (SaysOne (λ c. IsReported (is_run (map string_bytes words.now.items)) c (Adds (K.written sink.old) (K.written sink.new)))) }
 
-    // Under `run` what was written is the report of the run that the fleet keeps, unless the scenario has no actor.
+    // Under `run`, unless the scenario has no actor, the fleet's opening is that scenario, and what was written is the report of
+    // the run that the fleet keeps: its schedule is that of the kept events. No other command touches the fleet.
     ensures fleet_keeps { result ≡ 0 → is_run (map string_bytes words.now.items) ≡ true → IfSome (S.left source.old)
-        (SaysOne (λ c. 0 < length c.actors → ReportsKept c (F.kept fleet.new) (K.written sink.old) (K.written sink.new))) }
+        (SaysOne (λ c. 0 < length c.actors → ReportsKept c (F.opening fleet.new) (F.kept fleet.new) (Adds (K.written sink.old) (K.written sink.new)))) }
+    ensures fleet_untouched { is_run (map string_bytes words.now.items) ≡ false → fleet.new ≡ fleet.old }
 
     // Under `measure` the text says pages, and the line that tells their launch digest is written, and nothing else.
     ensures digest_written { result ≡ 0 → is_measure (map string_bytes words.now.items) ≡ true → WritesDigest (S.left source.old) (S.left source.new) (K.written sink.old) (K.written sink.new) }
@@ -112,6 +114,8 @@ pub fn snp_main<S: Source, K: Sink, G: Gate + Sync, F: Fleet, R: Threads + Wait 
     ensures write_failed { result ≡ 6 → Rose (K.faults sink.old) (K.faults sink.new) }
     ensures report_cut { result ≡ 6 → reads_scenario (map string_bytes words.now.items) ≡ true → ReadsText (S.left source.old) (S.left source.new)
         (SaysOne (λ c. IsReported (is_run (map string_bytes words.now.items)) c (AddsPrefix (K.written sink.old) (K.written sink.new)))) }
+    ensures fleet_cut { result ≡ 6 → is_run (map string_bytes words.now.items) ≡ true → IfSome (S.left source.old)
+        (SaysOne (λ c. 0 < length c.actors → ReportsKept c (F.opening fleet.new) (F.kept fleet.new) (AddsPrefix (K.written sink.old) (K.written sink.new)))) }
     ensures digest_cut { result ≡ 6 → is_measure (map string_bytes words.now.items) ≡ true → SaysCutDigest (S.left source.old) (S.left source.new) (K.written sink.old) (K.written sink.new) }
     ensures scenario_cut { (number : ℕ) → result ≡ 6 → gen_number (map string_bytes words.now.items) ≡ Some number → CutsScenario number (K.written sink.old) (K.written sink.new) }
     ensures drill_cut { (number : ℕ) → result ≡ 6 → drill_number (map string_bytes words.now.items) ≡ Some number → CutsDrill number (K.written sink.old) (K.written sink.new) }
@@ -163,7 +167,9 @@ fn carry_out_run<S: Source, K: Sink, G: Gate + Sync, F: Fleet, R: Threads + Wait
         (record { left = S.left source.old; read_faults = S.faults source.old; written = K.written sink.old; write_faults = K.faults sink.old })
         (record { left = S.left source.new; read_faults = S.faults source.new; written = K.written sink.new; write_faults = K.faults sink.new }) }
     ensures fleet_keeps { OnOk result (IfSome (S.left source.old)
-        (SaysOne (λ c. 0 < length c.actors → ReportsKept c (F.kept fleet.new) (K.written sink.old) (K.written sink.new)))) }
+        (SaysOne (λ c. 0 < length c.actors → ReportsKept c (F.opening fleet.new) (F.kept fleet.new) (Adds (K.written sink.old) (K.written sink.new))))) }
+    ensures fleet_cut { OnCut result (IfSome (S.left source.old)
+        (SaysOne (λ c. 0 < length c.actors → ReportsKept c (F.opening fleet.new) (F.kept fleet.new) (AddsPrefix (K.written sink.old) (K.written sink.new))))) }
     ensures taken { TakesAtMost (most Quantity.Bytes + 1) (S.left source.old) (S.left source.new) }
     ensures later { (S.faults source.old ≤ S.faults source.new) × (K.faults sink.old ≤ K.faults sink.new) }
 {

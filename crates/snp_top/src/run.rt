@@ -1,11 +1,10 @@
 //! A run by one worker for each actor, in whatever order their threads come to it, until every actor is finished.
 ghost use Rattle.std.specs.Prelude.{◌≡◌, ◌<◌, ◌≤◌, [], length, Some, OnOk, IfOk, vec_capacity};
 ghost use Rattle.machine_core.specs.Machine.{state_of};
-ghost use Rattle.snp_model.specs.Outside.{Adds};
+ghost use Rattle.snp_model.specs.Outside.{Adds, AddsPrefix};
 ghost use Rattle.snp_model.specs.Reading.{Valid};
-ghost use Rattle.snp_model.specs.Report.{report_text};
 ghost use Rattle.snp_top.specs.Fleets.{ArePasses, IsWhole, KeepsWhole};
-ghost use Rattle.snp_top.specs.Runs.{ReportsKept, RunsOut};
+ghost use Rattle.snp_top.specs.Runs.{IsKeptRun, OnCut, ReportsKept, RunsOut};
 
 use crate::batch::refuse;
 use crate::fault::CommandFault;
@@ -33,7 +32,8 @@ pub fn run<K: Sink, G: Gate + Sync, F: Fleet, R: Threads + Wait + Sync>(
 ) -> Result<(), CommandFault>
     requires { Valid scenario.now }
     ensures answer { RunsOut scenario.now (K.written sink.old) (K.written sink.new) (K.faults sink.old) (K.faults sink.new) result }
-    ensures fleet_keeps { OnOk result (0 < length scenario.now.actors → ReportsKept scenario.now (F.kept fleet.new) (K.written sink.old) (K.written sink.new)) }
+    ensures fleet_keeps { OnOk result (0 < length scenario.now.actors → ReportsKept scenario.now (F.opening fleet.new) (F.kept fleet.new) (Adds (K.written sink.old) (K.written sink.new))) }
+    ensures fleet_cut { OnCut result (0 < length scenario.now.actors → ReportsKept scenario.now (F.opening fleet.new) (F.kept fleet.new) (AddsPrefix (K.written sink.old) (K.written sink.new))) }
     ensures later { K.faults sink.old ≤ K.faults sink.new }
 {
     if scenario.actors.is_empty() {
@@ -71,6 +71,7 @@ fn by_workers<G: Gate + Sync, F: Fleet, R: Threads + Wait + Sync>(
 ) -> Result<(), AllocError>
     requires valid { Valid scenario.now }
     requires some { 0 < length scenario.now.actors }
+    ensures opening { OnOk result (F.opening fleet.new ≡ Some scenario.now) }
     ensures whole { OnOk result (KeepsWhole (Some scenario.now) (F.kept fleet.new)) }
 {
     let (object, mut passes) = fleet.build(alloc, scenario)?;
@@ -113,9 +114,11 @@ fn report_kept<K: Sink, F: Fleet>(
     sink: &mut K,
 ) -> Result<(), CommandFault>
     requires valid { Valid scenario.now }
+    requires opening { F.opening fleet.now ≡ Some scenario.now }
     requires whole { KeepsWhole (Some scenario.now) (F.kept fleet.now) }
     ensures answer { RunsOut scenario.now (K.written sink.old) (K.written sink.new) (K.faults sink.old) (K.faults sink.new) result }
-    ensures fleet_keeps { OnOk result (ReportsKept scenario.now (F.kept fleet.now) (K.written sink.old) (K.written sink.new)) }
+    ensures fleet_keeps { OnOk result (ReportsKept scenario.now (F.opening fleet.now) (F.kept fleet.now) (Adds (K.written sink.old) (K.written sink.new))) }
+    ensures fleet_cut { OnCut result (ReportsKept scenario.now (F.opening fleet.now) (F.kept fleet.now) (AddsPrefix (K.written sink.old) (K.written sink.new))) }
     ensures later { K.faults sink.old ≤ K.faults sink.new }
 {
     match fleet.ended() {
@@ -133,7 +136,8 @@ fn report_ended<K: Sink>(
     requires valid { Valid scenario.now }
     requires whole { IsWhole scenario.now (record { guests = ended.now.guests.items; list = ended.now.journal.list }) }
     ensures answer { RunsOut scenario.now (K.written sink.old) (K.written sink.new) (K.faults sink.old) (K.faults sink.new) result }
-    ensures text { OnOk result (Adds (K.written sink.old) (K.written sink.new) (report_text scenario.now.version ended.now.journal.list ended.now.guests.items)) }
+    ensures kept { OnOk result (IsKeptRun scenario.now (record { guests = ended.now.guests.items; list = ended.now.journal.list }) (Adds (K.written sink.old) (K.written sink.new))) }
+    ensures cut { OnCut result (IsKeptRun scenario.now (record { guests = ended.now.guests.items; list = ended.now.journal.list }) (AddsPrefix (K.written sink.old) (K.written sink.new))) }
     ensures later { K.faults sink.old ≤ K.faults sink.new }
 {
     match write_report(scenario.version, &ended.journal, &ended.guests, sink) {

@@ -1,5 +1,5 @@
 use Rattle.std.proofs.Common.{ℕ, List, arith, inl, inr, map, string_bytes}
-use Rattle.snp_cli.proofs.FlushLaws.{IsUnflushed, never_done, other_status, refused_status, line_kept, later_kept, same_status, cut_status, known_status, rose_kept, rose_behind, report_kept, fleet_kept, refusal_kept, limit_kept, bad_turn_kept, cut_kept, report_cut, digest_kept, cut_digest_kept, digest_cut, page_refusal_kept, scenario_kept, cut_scenario_kept, scenario_cut, drill_kept, cut_drill_kept, drill_cut, scenario_is_text, drawn_status}
+use Rattle.snp_cli.proofs.FlushLaws.{IsUnflushed, never_done, other_status, refused_status, line_kept, later_kept, same_status, cut_status, known_status, rose_kept, rose_behind, report_kept, fleet_kept, cut_fleet_kept, fleet_cut, refusal_kept, limit_kept, bad_turn_kept, cut_kept, report_cut, digest_kept, cut_digest_kept, digest_cut, page_refusal_kept, scenario_kept, cut_scenario_kept, scenario_cut, drill_kept, cut_drill_kept, drill_cut, scenario_is_text, drawn_status}
 use Rattle.snp_cli.proofs.session.answer.Goals as goal
 
 pub returns-in-Ok : goal.returns-in-Ok
@@ -10,7 +10,8 @@ returns-in-Ok g c =
     record {
       source_read = main.source_read;
       reported = λ zero reads. report_kept _ _ _ _ _ (main.reported zero reads) flushed;
-      fleet_keeps = λ zero asked. fleet_kept _ _ _ _ _ (main.fleet_keeps zero asked) flushed;
+      fleet_keeps = λ zero asked. fleet_kept _ _ _ _ _ _ (main.fleet_keeps zero asked) flushed;
+      fleet_untouched = main.fleet_untouched;
       digest_written = λ zero asked. digest_kept _ _ _ _ _ (main.digest_written zero asked) flushed;
       scenario_drawn = λ number zero asked. scenario_kept number _ _ _ (main.scenario_drawn number zero asked) flushed;
       drill_written = λ number zero asked. drill_kept number _ _ _ (main.drill_written number zero asked) flushed;
@@ -34,6 +35,7 @@ returns-in-Ok g c =
       read_line = λ five. line_kept _ _ _ _ _ _ _ (main.read_line five) flushed later;
       write_failed = λ six. rose_kept _ _ _ (main.write_failed six) later;
       report_cut = λ six reads. cut_kept _ _ _ _ _ _ (main.report_cut six reads) flushed;
+      fleet_cut = λ six asked. cut_fleet_kept _ _ _ _ _ _ (main.fleet_cut six asked) flushed;
       digest_cut = λ six asked. cut_digest_kept _ _ _ _ _ (main.digest_cut six asked) flushed;
       scenario_cut = λ number six asked. cut_scenario_kept number _ _ _ (main.scenario_cut number six asked) flushed;
       drill_cut = λ number six asked. cut_drill_kept number _ _ _ (main.drill_cut number six asked) flushed;
@@ -65,6 +67,7 @@ returns-in-Err g c =
       reported = λ zero reads. absurd (never_done _ _ is zero);
       digest_written = λ zero asked. absurd (never_done _ _ is zero);
       fleet_keeps = λ zero asked. absurd (never_done _ _ is zero);
+      fleet_untouched = main.fleet_untouched;
       scenario_drawn = λ number zero asked. absurd (never_done _ _ is zero);
       drill_written = λ number zero asked. absurd (never_done _ _ is zero);
       source_unread = main.source_unread;
@@ -89,6 +92,10 @@ returns-in-Err g c =
       report_cut = λ six reads. elim (cut_status _ _ is six) [
         | inl zero ↦ report_cut _ _ _ _ _ _ (main.source_read zero (scenario_is_text words reads)) (main.reported zero reads) flushed
         | inr same ↦ cut_kept _ _ _ _ _ _ (main.report_cut same reads) flushed
+      ];
+      fleet_cut = λ six asked. elim (cut_status _ _ is six) [
+        | inl zero ↦ fleet_cut _ _ _ _ _ _ (main.fleet_keeps zero asked) flushed
+        | inr same ↦ cut_fleet_kept _ _ _ _ _ _ (main.fleet_cut same asked) flushed
       ];
       digest_cut = λ six asked. elim (cut_status _ _ is six) [
         | inl zero ↦ digest_cut _ _ _ _ _ (main.digest_written zero asked) flushed

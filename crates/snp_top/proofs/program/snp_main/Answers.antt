@@ -2,7 +2,7 @@ use Rattle.std.proofs.Common.{List, ℕ, map, string_bytes, sym, ◌∙◌, inl,
 use Rattle.snp_model.specs.CommandLine.{is_replay}
 use Rattle.snp_top.specs.Runs.{is_run}
 use Rattle.snp_top.specs.Words.{takes_text}
-use Rattle.snp_top.proofs.BatchLaws.{ok_told}
+use Rattle.snp_top.proofs.BatchLaws.{cut_told, ok_told}
 use Rattle.snp_top.proofs.CommandLaws.{asked_by, batch_cut, batch_reported, cut_by, or_other, run_told}
 use Rattle.snp_top.proofs.WordLaws.{run_or_drawn, run_or_measure}
 use Rattle.snp_top.proofs.program.snp_main.Goals as goal
@@ -13,6 +13,9 @@ returns-then-is_run-clause-reported g c = λ zero reads.
 
 pub returns-then-is_run-clause-fleet_keeps : goal.returns-then-is_run-clause-fleet_keeps
 returns-then-is_run-clause-fleet_keeps g c = λ zero asked. ok_told c.carry_out_run.result c.exit_status.result _ c.exit_status.ensures c.carry_out_run.ensures.fleet_keeps zero
+
+pub returns-then-is_run-clause-fleet_cut : goal.returns-then-is_run-clause-fleet_cut
+returns-then-is_run-clause-fleet_cut g c = λ six asked. cut_told c.carry_out_run.result c.exit_status.result _ c.exit_status.ensures c.carry_out_run.ensures.fleet_cut six
 
 pub returns-then-is_run-clause-digest_written : goal.returns-then-is_run-clause-digest_written
 returns-then-is_run-clause-digest_written g c = λ zero measures. absurd (run_or_measure (map string_bytes c.args.words.now.items) (sym c.is_run.ensures ∙ c.if-is_run.true) measures)
@@ -51,6 +54,10 @@ returns-then-is_run-clause-digest_cut g c = λ six measures. absurd (run_or_meas
 
 pub returns-then-is_run-clause-memory_line : goal.returns-then-is_run-clause-memory_line
 returns-then-is_run-clause-memory_line g c = (run_told c.carry_out_run.result c.exit_status.result _ _ c.exit_status.ensures c.carry_out_run.ensures.explained).memory_line
+
+pub returns-then-is_run-clause-report_cut : goal.returns-then-is_run-clause-report_cut
+returns-then-is_run-clause-report_cut g c = λ six reads.
+    cut_by _ _ _ _ (sym c.is_run.ensures ∙ c.if-is_run.true) ((run_told c.carry_out_run.result c.exit_status.result _ _ c.exit_status.ensures c.carry_out_run.ensures.explained).cut six)
 
 pub returns-then-is_run-clause-run_complete : goal.returns-then-is_run-clause-run_complete
 returns-then-is_run-clause-run_complete g c = λ text c' fits left reads no_read no_write.

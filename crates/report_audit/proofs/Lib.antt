@@ -1,0 +1,11 @@
+pub mod EventsAgain
+pub mod FoldLaws
+pub mod GuestsAgain
+pub mod LinesAgain
+pub mod MemoryLaws
+pub mod OrderAgain
+pub mod OrderLaws
+pub mod ReportAgain
+pub mod ReportLaws
+pub mod SoundLaws
+pub mod TextLaws

@@ -1,0 +1,10 @@
+pub mod Again
+pub mod Answers
+pub mod Audit
+pub mod Ending
+pub mod Folds
+pub mod Hearing
+pub mod Kinds
+pub mod Ledgers
+pub mod Legality
+pub mod Told
