@@ -259,7 +259,7 @@ def run_explore(options: argparse.Namespace) -> int:
     text = read_text(options.scenario)
     program = program_from(options.program)
     if program.is_unproved:
-        print('snp-lab: no proved program is built, so each run takes half a minute; `rt ci` builds one, and --program names another',
+        print('snp-lab: no proved program is built, so each run takes half a minute; `./snp build` makes one, and --program names another',
               file=sys.stderr)
     made = Options(options.most, options.random, options.seed, options.jobs or default_jobs(), options.full, options.joint,
                    options.after, options.seconds, options.until)

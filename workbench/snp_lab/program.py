@@ -6,6 +6,7 @@ import pathlib
 import re
 import shutil
 import subprocess
+import sys
 import time
 from dataclasses import dataclass
 
@@ -94,11 +95,26 @@ class Program:
         return pathlib.Path(self.path) == SCRIPT and not os.access(BUILT, os.X_OK)
 
 
+def tell_doubt() -> None:
+    """Tells on standard error, as `./snp` does, where the built program isn't known to be of the sources that stand here."""
+    if not (TOP / 'crates.txt').exists():  # an unpacked archive has no sources
+        return
+    try:
+        said = subprocess.run([str(SCRIPT), 'doubt'], stdin=subprocess.DEVNULL, capture_output=True).stdout.decode('utf-8', 'replace')
+    except OSError:
+        return
+    if said:
+        print(f'snp-lab: {said.strip()}', file=sys.stderr)
+
+
 def program_from(option: str | None) -> Program:
     """The program to ask: `--program`, else what SNP names, else the repository's own."""
     named = option or os.environ.get('SNP')
+    if named is None and not os.access(BUILT, os.X_OK):
+        return Program(str(SCRIPT))
     if named is None:
-        return Program(str(BUILT if os.access(BUILT, os.X_OK) else SCRIPT))
+        tell_doubt()
+        return Program(str(BUILT))
     path = shutil.which(named)
     if path is None:
         raise Complaint('there is no program of this name that can be run', named)
