@@ -627,7 +627,7 @@ def test_program_litmus(program):
             'possible 0 2 ...']
     lines = ''.join(f'# expect {line}\n' for line in good)
     ended = says(['test', '-'], 0, ['all orders were tried, by ', '# 7 passed, 0 failed', 'as by this order'], lines + text + 'end\n', program)
-    need('not all' not in ended.out, ended.out)
+    need(ended.out.count('all orders were tried') == 6 and ended.out.count('not all') <= 1, ended.out)  # one is decided early
     for line, words in [('never ... npf *', 'this order has such a line'), ('always * 2 0.0 ... store', None),
                         ('possible ... load 0x6', 'all orders were tried'), ('always * 1 1.0 ... load 0x0', 'this order has no such line')]:
         ended = says(['test', '-'], 0 if words is None else 1, ['all orders were tried' if words is None else '# ' + words],

@@ -20,10 +20,11 @@ from .patterns import names_a_number, pattern_of
 from .program import Program
 from .runs import Branch, Played, Search, Told
 from .scenario import order_lines, parse, runs_of, without_order
+from .states import Step
 from .texts import Complaint
 
 # How many runs a process makes before it tells them.
-BATCH = 8
+BATCH = 16
 PASSED_OVER = 'passed over'
 Rank = tuple[int, bytes]
 Key = tuple[int, int]
@@ -70,6 +71,19 @@ class Found:
             put(self.wholes, tuple(outcomes.items()), place)
         put(self.likes, likes, place)
 
+    def join(self, other: Found) -> None:
+        """Adds what other runs have shown."""
+        self.runs += other.runs
+        self.counts.update(other.counts)
+        for one, place in other.best.items():
+            known = self.best.get(one)
+            if known is None or place < known:
+                self.best[one] = place
+        for whole, (many, place) in other.wholes.items():
+            put(self.wholes, whole, place, many)
+        for likes, (many, place) in other.likes.items():
+            put(self.likes, likes, place, many)
+
     def of_item(self, key: Key) -> dict[str, tuple[int, Rank]]:
         """The outcomes of an item, each with how many runs have it and the best schedule."""
         return {outcome: (self.counts[other, outcome], place) for (other, outcome), place in self.best.items() if other == key}
@@ -79,9 +93,9 @@ class Found:
         return min((place for likes, (_, place) in self.likes.items() if likes & bits == wanted), default=None)
 
 
-def put(table: dict[Any, tuple[int, Rank]], name: object, place: Rank) -> None:
+def put(table: dict[Any, tuple[int, Rank]], name: object, place: Rank, many: int = 1) -> None:
     known = table.get(name)
-    table[name] = (1, place) if known is None else (known[0] + 1, min(known[1], place))
+    table[name] = (many, place) if known is None else (known[0] + many, min(known[1], place))
 
 
 def outcomes_of(search: Search, played: Played) -> dict[Key, str]:
@@ -103,36 +117,66 @@ def by_number(text: str) -> bool:
     return names_a_number(text) or text.split()[0] not in ('*', '...', 'guest')
 
 
-def likes_of(search: Search, played: Played, numbered: bool) -> int:
+def likes_of(search: Search, played: Played) -> int:
     """Which patterns the lines of a report are like, a bit for each."""
     if not search.patterns:
         return 0
     likes = 0
     for step in played.steps:
         likes |= step.likes
-    for line in played.lines if numbered else played.ending:
+    for line in played.lines if search.numbered else played.ending:
         likes |= sum(1 << k for k, pattern in enumerate(search.patterns) if pattern.match(line))
     return likes
 
 
-# What a worker process keeps between its batches.
-SHARED: dict[str, Search] = {}
+@dataclass
+class Worker:
+    """What a process keeps between its batches: the search, and a number for each event's line that it has told of."""
+    search: Search
+    numbers: dict[Step, int] = field(default_factory=dict)
+
+
+@dataclass
+class Report:
+    """What a process tells of a batch: which process it is, the lines that it hadn't told of, the numbers of each run's lines, and what
+    all of the runs have shown."""
+    process: int
+    lines: list[str]
+    runs: list[list[int]]
+    found: Found
+
+
+WORKER: list[Worker] = []
 
 
 def start_worker(search: Search) -> None:
     signal.signal(signal.SIGINT, signal.SIG_IGN)
     signal.signal(signal.SIGTERM, signal.SIG_DFL)
-    SHARED['search'] = search
+    WORKER[:] = [Worker(search)]
 
 
-def work(branches: list[tuple[bytes, int | None]]) -> list[Told]:
+def told(worker: Worker, runs: list[Told]) -> Report:
+    made = Report(os.getpid(), [], [], Found(worker.search.keeps_wholes))
+    for schedule, output in runs:
+        played = worker.search.played(schedule, output)
+        made.found.add(outcomes_of(worker.search, played), likes_of(worker.search, played), schedule)
+        for step in played.steps:
+            if step not in worker.numbers:
+                worker.numbers[step] = len(worker.numbers)
+                made.lines.append(step.line)
+        made.runs.append([worker.numbers[step] for step in played.steps])
+    return made
+
+
+def work(branches: list[tuple[bytes, int | None]]) -> Report:
     """Runs branches to their ends."""
-    search = SHARED['search']
-    return [search.run(Branch(before, actor)) for before, actor in branches]
+    worker = WORKER[0]
+    return told(worker, [worker.search.run(Branch(before, actor)) for before, actor in branches])
 
 
-def work_random(seeds: list[str], before: bytes) -> list[Told]:
-    return [SHARED['search'].shuffled(before, random.Random(seed)) for seed in seeds]
+def work_random(seeds: list[str], before: bytes) -> Report:
+    worker = WORKER[0]
+    return told(worker, [worker.search.shuffled(before, random.Random(seed)) for seed in seeds])
 
 
 class Progress:
@@ -173,7 +217,8 @@ class Explorer:
         self.numbered = any(by_number(pattern) for pattern in options.until)
         self.search = Search(program, scenario, without_order(text), reduce=not (options.full or self.numbered),
                              keeps_wholes=options.joint, patterns=[pattern_of(pattern) for pattern in options.until],
-                             waits=read_before(text, scenario))
+                             numbered=self.numbered, waits=read_before(text, scenario))
+        self.told: dict[int, list[Step]] = {}  # the events that each process has told of, by its numbers
         spelled = bytes(actor for actor, many in scenario.schedule for _ in range(many) if actor < 256)
         if len(spelled) < options.after:
             raise Complaint(f'the order has {len(spelled)} events, and --after asks for {options.after}', name)
@@ -206,7 +251,7 @@ class Explorer:
         return bool(self.stopped)
 
     def note(self, played: Played) -> None:
-        self.found.add(outcomes_of(self.search, played), likes_of(self.search, played, self.numbered), played.schedule)
+        self.found.add(outcomes_of(self.search, played), likes_of(self.search, played), played.schedule)
 
     def take(self, branch: Branch, played: Played) -> None:
         """Takes a run of the program, and goes on behind it."""
@@ -247,9 +292,18 @@ class Explorer:
                 pool.shutdown(wait=False, cancel_futures=True)
 
     def worker_search(self) -> Search:
-        """What a process needs to run schedules; it looks for no patterns and keeps no states."""
+        """What a process needs to run schedules and to read their reports; it keeps no states."""
         one = self.search
-        return Search(one.program, one.scenario, one.head, waits=one.waits, totals=dict(one.totals))
+        return Search(one.program, one.scenario, one.head, reduce=False, keeps_wholes=one.keeps_wholes, patterns=one.patterns,
+                      numbered=one.numbered, waits=one.waits, totals=dict(one.totals))
+
+    def take_report(self, branches: list[Branch], made: Report) -> None:
+        """Takes what a process tells of a batch, and goes on behind each of its runs."""
+        self.found.join(made.found)
+        known = self.told.setdefault(made.process, [])
+        known += [self.search.step(line) for line in made.lines]
+        for branch, numbers in zip(branches, made.runs):
+            self.branches += self.search.walk(branch, [known[number] for number in numbers])
 
     def next_branch(self) -> Branch | None:
         """The newest branch that wants a run; those that are known without one are gone through at once."""
@@ -273,7 +327,7 @@ class Explorer:
 
     def exhaust(self, pool: ProcessPoolExecutor | None, progress: Progress, start: float) -> None:
         """Tries branches until none is left or the most is reached."""
-        running: dict[Future[list[Told]], list[Branch]] = {}
+        running: dict[Future[Report], list[Branch]] = {}
         left = self.options.most - self.found.runs
         while (self.branches or running) and not self.is_over(start):
             while left > 0 and len(running) < 2 * self.options.jobs:
@@ -291,9 +345,8 @@ class Explorer:
                 return
             if running:
                 done, _ = wait(running, timeout=0.5, return_when=FIRST_COMPLETED)
-                for one in done:
-                    for branch, (schedule, output) in zip(running.pop(one), one.result()):
-                        self.take(branch, self.search.played(schedule, output))
+                for one in [one for one in running if one in done]:  # in the order in which each process has made them
+                    self.take_report(running.pop(one), one.result())
             progress.show(self.found, len(self.branches))
         for one, batch in running.items():
             self.branches += batch
@@ -304,17 +357,15 @@ class Explorer:
         seeds = [f'{self.options.seed}.{k}' for k in range(self.options.random)]
         batches = [seeds[k:k + BATCH] for k in range(0, len(seeds), BATCH)]
         before = self.found.runs
-        SHARED['search'] = self.search
+        WORKER[:] = [Worker(self.search)]
         running = {pool.submit(work_random, batch, self.before) for batch in batches} if pool is not None else set()
         while (batches if pool is None else running) and not self.is_over(start):
-            told: list[Told] = []
             if pool is None:
-                told = work_random(batches.pop(), self.before)
+                self.found.join(work_random(batches.pop(), self.before).found)
             else:
                 done, running = wait(running, timeout=0.5, return_when=FIRST_COMPLETED)
-                told = [one for batch in done for one in batch.result()]
-            for schedule, output in told:
-                self.note(self.search.played(schedule, output))
+                for one in done:
+                    self.found.join(one.result().found)
             progress.show(self.found, 0)
         for one in running:
             one.cancel()
@@ -408,7 +459,7 @@ class Explorer:
         """Replays a schedule that decided on a pattern, and compares."""
         likes = next(likes for likes, (_, other) in self.found.likes.items() if other == place)
         answer, _ = self.search.ask(place[1])
-        if answer is None or likes_of(self.search, answer, self.numbered) & bit != likes & bit:
+        if answer is None or likes_of(self.search, answer) & bit != likes & bit:
             raise Complaint('the check failed: a schedule that was found gives another report', self.search.scenario.name)
 
     def hit_lines(self) -> list[str]:

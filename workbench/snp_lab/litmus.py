@@ -47,4 +47,4 @@ def verdict(explorer: Explorer, kind: str, bit: int) -> Verdict:
     schedule = explorer.schedule_text(place)
     explorer.check_like(place, bit)
     said = {'never': 'this order has such a line', 'possible': 'as by this order', 'always': 'this order has no such line'}[kind]
-    return Verdict(kind == 'possible', said, schedule)
+    return Verdict(kind == 'possible', f'{said} ({tried})', schedule)

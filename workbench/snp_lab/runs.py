@@ -60,6 +60,7 @@ class Search:
     reduce: bool = True
     keeps_wholes: bool = False
     patterns: list[re.Pattern[str]] = field(default_factory=list)
+    numbered: bool = False
     waits: dict[Key, list[Key]] = field(default_factory=dict)
     totals: dict[int, int] = field(default_factory=dict)
     bounds: dict[int, list[Bound]] = field(default_factory=dict)
@@ -99,8 +100,12 @@ class Search:
         """A report, each of whose lines is read once in a search."""
         lines = output.split('\n')[:-1]
         rests = [line.partition(' ')[2] for line in lines[1:len(schedule) + 1]]
-        steps = [self.known.get(rest) or self.read_step(rest) for rest in rests]
+        steps = [self.known.get(rest) or self.step(rest) for rest in rests]
         return Played(schedule, steps, lines[len(schedule) + 1:], lines)
+
+    def step(self, line: str) -> Step:
+        """An event by its line without its number."""
+        return self.known.get(line) or self.read_step(line)
 
     def read_step(self, line: str) -> Step:
         event = read_event(Line('the report', 0, '0 ' + line), 0)
@@ -123,7 +128,7 @@ class Search:
         left: list[int] = []
         for actor, one in self.scenario.actors.items():
             rest = lines[schedule.rfind(actor) + 1].partition(' ')[2] if actor in schedule else ''
-            if one.items and not (rest and self.is_finished(self.known.get(rest) or self.read_step(rest))):
+            if one.items and not (rest and self.is_finished(self.step(rest))):
                 left.append(actor)
         return left
 
