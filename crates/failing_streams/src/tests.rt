@@ -3,7 +3,6 @@ use outside_port::{MemorySink, MemorySource, OpenGate};
 use snp_top::locked_fleet::LockedFleet;
 use snp_top::program::snp_main;
 use std::alloc::{AllocError, Global};
-use std::process::Abort;
 use std::sync::Wait;
 use std::test::Fail;
 use std::thread::Threads;
@@ -119,43 +118,7 @@ fn count_written<R: Threads + Wait + Sync>(
     })
 }
 
-// Each of these writes of a command fails in turn, from the first one on up to the last, which isn't among them: for each of them a
-// longer front is written than for the write before it.
-fn fail_each<R: Abort + Threads + Wait + Sync>(
-    rt: &R,
-    alloc: Global,
-    (line, text): (&str, &str),
-    (first, last): (u32, u32),
-) -> Result<(), Fail> {
-    let (status, whole) = carry_out(rt, alloc, line, text, NOTHING)?;
-    assert_eq!(rt; status, 0, "{line}");
-    let mut front = match first.checked_sub(1) {
-        Some(before) => count_written(rt, alloc, (line, text), before, whole.bytes())?,
-        None => None,
-    };
-    for write in first..last {
-        let count = count_written(rt, alloc, (line, text), write, whole.bytes())?;
-        assert!(rt; count > front, "{line} {write}");
-        assert!(rt; count < Some(whole.bytes().len()), "{line} {write}");
-        front = count;
-    }
-    Ok(())
-}
-
-// A command makes so many writes: one behind the last never fails.
-fn has_writes<R: Abort + Threads + Wait + Sync>(
-    rt: &R,
-    alloc: Global,
-    (line, text): (&str, &str),
-    writes: u32,
-) -> Result<(), Fail> {
-    let (_, whole) = carry_out(rt, alloc, line, text, NOTHING)?;
-    let count = count_written(rt, alloc, (line, text), writes, whole.bytes())?;
-    assert_eq!(rt; count, Some(whole.bytes().len()), "{line}");
-    Ok(())
-}
-
-// Write k fails, for each k to the last write.
+// Write k fails, for each k to the last write: a longer front is written for each than for the one before it.
 #[test]
 fn each_write(rt: HostRuntime) -> Result<(), Fail> {
     let alloc = rt.alloc();
@@ -163,58 +126,22 @@ fn each_write(rt: HostRuntime) -> Result<(), Fail> {
         ("replay", SCENARIO, 5),
         ("run", SCENARIO, 5),
         ("measure", PAGES, 1),
+        ("gen 3", "", 4_162),
         ("drill 3", "", 1),
     ] {
-        fail_each(&rt, alloc, (line, text), (0, writes))?;
-        has_writes(&rt, alloc, (line, text), writes)?;
+        let (status, whole) = carry_out(&rt, alloc, line, text, NOTHING)?;
+        assert_eq!(rt; status, 0, "{line}");
+        let mut front = None;
+        for write in 0..writes {
+            let count = count_written(&rt, alloc, (line, text), write, whole.bytes())?;
+            assert!(rt; count > front, "{line} {write}");
+            assert!(rt; count < Some(whole.bytes().len()), "{line} {write}");
+            front = count;
+        }
+        let count = count_written(&rt, alloc, (line, text), writes, whole.bytes())?;
+        assert_eq!(rt; count, Some(whole.bytes().len()), "{line}");
     }
-    has_writes(&rt, alloc, DRAWN, DRAWN_WRITES)
-}
-
-// The scenario of a number, with a write for each line but the second.
-const DRAWN: (&str, &str) = ("gen 3", "");
-
-const DRAWN_WRITES: u32 = 4_162;
-
-// Each of its writes fails too, in parts, since a test has a minute.
-#[test]
-fn drawn_writes_to_640(rt: HostRuntime) -> Result<(), Fail> {
-    fail_each(&rt, rt.alloc(), DRAWN, (0, 640))
-}
-
-#[test]
-fn drawn_writes_to_1280(rt: HostRuntime) -> Result<(), Fail> {
-    fail_each(&rt, rt.alloc(), DRAWN, (640, 1280))
-}
-
-#[test]
-fn drawn_writes_to_1920(rt: HostRuntime) -> Result<(), Fail> {
-    fail_each(&rt, rt.alloc(), DRAWN, (1280, 1920))
-}
-
-#[test]
-fn drawn_writes_to_2560(rt: HostRuntime) -> Result<(), Fail> {
-    fail_each(&rt, rt.alloc(), DRAWN, (1920, 2560))
-}
-
-#[test]
-fn drawn_writes_to_3000(rt: HostRuntime) -> Result<(), Fail> {
-    fail_each(&rt, rt.alloc(), DRAWN, (2560, 3000))
-}
-
-#[test]
-fn drawn_writes_to_3400(rt: HostRuntime) -> Result<(), Fail> {
-    fail_each(&rt, rt.alloc(), DRAWN, (3000, 3400))
-}
-
-#[test]
-fn drawn_writes_to_3800(rt: HostRuntime) -> Result<(), Fail> {
-    fail_each(&rt, rt.alloc(), DRAWN, (3400, 3800))
-}
-
-#[test]
-fn drawn_writes_to_the_last(rt: HostRuntime) -> Result<(), Fail> {
-    fail_each(&rt, rt.alloc(), DRAWN, (3800, DRAWN_WRITES))
+    Ok(())
 }
 
 // Words that are no command, where the first write fails, or a read would. Commands that read no text don't meet a read either.
