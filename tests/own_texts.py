@@ -1,6 +1,7 @@
-"""Two texts that are no example and no case, for `alloc` and `sanitized`.
+"""Texts that are no example and no case, for `alloc` and `sanitized`.
 
-    text_of(name)    the text of this name: one of the two, a case of cases/ where the name ends with `.in`, or else an example
+    text_of(name)    the text of this name: one of OWN, a case of cases/ where the name ends with `.in`, or else an example
+    walks(count)     32 actors of 256 loads through five levels, each of 31 events, and a schedule of so many events of each actor
 """
 import pathlib
 
@@ -46,3 +47,10 @@ def text_of(name):
     if name in OWN:
         return OWN[name].encode()
     return (HERE / 'cases' / name if name.endswith('.in') else HERE.parent / 'examples' / name).read_bytes()
+
+
+def walks(count):
+    head = OPENING.replace('snp 1', 'snp 2') + 'word 8 0 7\n'
+    actors = [f'actor {actor} cpu 1 vmpl 0 npt 1 la57 0\n' + 256 * 'load 0\n' for actor in range(1, 33)]
+    orders = ['order ' + ' '.join(f'{actor}*{count}' for actor in some) + '\n' for some in (range(1, 17), range(17, 33))]
+    return ''.join((head, *actors, *orders, 'end\n')).encode()
