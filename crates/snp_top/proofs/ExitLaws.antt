@@ -1,5 +1,5 @@
 -- What an exit status tells, clause by clause.
-use Rattle.std.proofs.Common.{◌≡◌, ◌≢◌, ℕ, ◌+◌, ◌≤◌, ◌<◌, ◌⊎◌, Bool, true, false, List, length, Option, None, Some, IfSome, Result, Ok, Err, refl, sym, ap, ◌∙◌, subst, arith, inl, inr}
+use Rattle.std.proofs.Common.{◌≡◌, ◌≢◌, eqb, ℕ, ◌+◌, ◌≤◌, ◌<◌, ◌⊎◌, Bool, true, false, List, length, Option, None, Some, IfSome, Result, Ok, Err, refl, sym, ap, ◌∙◌, subst, arith, inl, inr}
 use Rattle.std.proofs.lemmas.Bool.Decides.{eqb_tells}
 use Rattle.std.specs.Prelude.{codes}
 use Rattle.snp_model.specs.declared.reading.Quantity.{Quantity}
@@ -124,6 +124,7 @@ by_status {asked} {k} exits R done cut failed = first (eqb_tells k 0)
     second : k ≢ 0 → ((eqb k 6 ≡ true) × (k ≡ 6)) ⊎ ((eqb k 6 ≡ false) × (k ≢ 6)) → R
     second some (inl six) = cut six.1 (exits.cut six.1)
     second some (inr other) = failed (exits.failed some other.1)
+
     first : ((eqb k 0 ≡ true) × (k ≡ 0)) ⊎ ((eqb k 0 ≡ false) × (k ≢ 0)) → R
     first (inl zero) = done zero.1 (exits.done zero.1)
     first (inr some) = second some.1 (eqb_tells k 6)

@@ -83,20 +83,23 @@ outputs_as (Some (asks.Drawn number what)) left now P Q gives out = drawn_as wha
 kept_as : (c : Scenario) (opens : Option Scenario) (kept : Option Kept) (P Q : List ℕ → Type 0) → ((bytes : List ℕ) → P bytes → Q bytes) → ReportsKept c opens kept P → ReportsKept c opens kept Q
 kept_as c None kept P Q gives reports = absurd reports
 kept_as c (Some opens) None P Q gives reports = absurd reports
-kept_as c (Some opens) (Some kept) P Q gives reports = (reports.0, record {
-  whole = reports.1.whole;
-  written = gives (report_text c.version kept.list kept.guests) reports.1.written;
-  reported = record {
-    schedule = reports.1.reported.schedule;
-    chosen = reports.1.reported.chosen;
-    defined = reports.1.reported.defined;
-    ordered = reports.1.reported.ordered;
-    legal = reports.1.reported.legal;
-    spelled = reports.1.reported.spelled;
-    written = gives (report_of c reports.1.reported.schedule) reports.1.reported.written;
-  };
-  same = reports.1.same;
-})
+kept_as c (Some opens) (Some kept) P Q gives reports = (
+  reports.0,
+  record {
+    whole = reports.1.whole;
+    written = gives (report_text c.version kept.list kept.guests) reports.1.written;
+    reported = record {
+      schedule = reports.1.reported.schedule;
+      chosen = reports.1.reported.chosen;
+      defined = reports.1.reported.defined;
+      ordered = reports.1.reported.ordered;
+      legal = reports.1.reported.legal;
+      spelled = reports.1.reported.spelled;
+      written = gives (report_of c reports.1.reported.schedule) reports.1.reported.written;
+    };
+    same = reports.1.same;
+  },
+)
 
 -- what a fleet keeps and what is so of its report
 abbrev pub Fleets : Option (List ℕ) → Option Scenario → Option Kept → (List ℕ → Type 0) → Type 0

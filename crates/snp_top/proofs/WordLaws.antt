@@ -54,18 +54,18 @@ IsAsked words (Some (asks.Drawn number draws.Drill)) = drill_number words ≡ So
 
 -- a row of the table
 row : (P : Option Asked → Type 0) (test : Bool) (here below : Option Asked) → (test ≡ true → P here) → (test ≡ false → P below) → P (if test then here else below)
-row P true here below yes no = yes refl
-row P false here below yes no = no refl
+row P true here below fit other = fit refl
+row P false here below fit other = other refl
 
 with_number : (P : Option Asked → Type 0) (what : Drawn) (o : Option ℕ) → ((number : ℕ) → o ≡ Some number → P (Some (asks.Drawn number what))) → (o ≡ None → P None) → P (option_map (λ number. asks.Drawn number what) o)
 with_number P what None some none = none refl
 with_number P what (Some number) some none = some number refl
 
 behind : (name : List ℕ) (words : List (List ℕ)) (o : Option ℕ) → fits name 2 words ≡ true → decimal_of (slice_index_or words 1 []) ≡ o → number_behind name words ≡ o
-behind name words o yes is = ap (λ (b : Bool). if b then decimal_of (slice_index_or words 1 []) else None) yes ∙ is
+behind name words o fit is = ap (λ (b : Bool). if b then decimal_of (slice_index_or words 1 []) else None) fit ∙ is
 
 not_behind : (name : List ℕ) (words : List (List ℕ)) → fits name 2 words ≡ false → number_behind name words ≡ None
-not_behind name words no = ap (λ (b : Bool). if b then decimal_of (slice_index_or words 1 []) else None) no
+not_behind name words other = ap (λ (b : Bool). if b then decimal_of (slice_index_or words 1 []) else None) other
 
 none_asked : (words : List (List ℕ)) → is_replay words ≡ false → is_run words ≡ false → is_measure words ≡ false → gen_number words ≡ None → drill_number words ≡ None → are_commands words ≡ false
 none_asked words replay run measure gen drill = λ i. run i || (((replay i || measure i) || is_some (gen i)) || is_some (drill i))
@@ -74,18 +74,18 @@ none_asked words replay run measure gen drill = λ i. run i || (((replay i || me
 pub asked_is : (words : List (List ℕ)) → IsAsked words (command_of words)
 unfolding forms first_of
 asked_is words =
-    row (IsAsked words) (is_replay words) _ _ (λ yes. yes) (λ no_replay.
-    row (IsAsked words) (is_run words) _ _ (λ yes. yes) (λ no_run.
-    row (IsAsked words) (is_measure words) _ _ (λ yes. yes) (λ no_measure.
+    row (IsAsked words) (is_replay words) _ _ (λ fit. fit) (λ no_replay.
+    row (IsAsked words) (is_run words) _ _ (λ fit. fit) (λ no_run.
+    row (IsAsked words) (is_measure words) _ _ (λ fit. fit) (λ no_measure.
     row (IsAsked words) (fits (codes "gen") 2 words) _ _
-        (λ yes. with_number (IsAsked words) draws.Gen (decimal_of (slice_index_or words 1 [])) (λ number is. behind (codes "gen") words (Some number) yes is)
-            (λ is. none_asked words no_replay no_run no_measure (behind (codes "gen") words None yes is)
-                (not_behind (codes "drill") words (or_false (fits (codes "drill") 2 words) (λ drill. forms_apart (codes "gen") (codes "drill") 2 2 words refl yes drill)))))
-        (λ no_gen.
+    (λ fit. with_number (IsAsked words) draws.Gen (decimal_of (slice_index_or words 1 [])) (λ number is. behind (codes "gen") words (Some number) fit is)
+    (λ is. none_asked words no_replay no_run no_measure (behind (codes "gen") words None fit is)
+    (not_behind (codes "drill") words (or_false (fits (codes "drill") 2 words) (λ drill. forms_apart (codes "gen") (codes "drill") 2 2 words refl fit drill)))))
+    (λ no_gen.
     row (IsAsked words) (fits (codes "drill") 2 words) _ _
-        (λ yes. with_number (IsAsked words) draws.Drill (decimal_of (slice_index_or words 1 [])) (λ number is. behind (codes "drill") words (Some number) yes is)
-            (λ is. none_asked words no_replay no_run no_measure (not_behind (codes "gen") words no_gen) (behind (codes "drill") words None yes is)))
-        (λ no_drill. none_asked words no_replay no_run no_measure (not_behind (codes "gen") words no_gen) (not_behind (codes "drill") words no_drill))))))
+    (λ fit. with_number (IsAsked words) draws.Drill (decimal_of (slice_index_or words 1 [])) (λ number is. behind (codes "drill") words (Some number) fit is)
+    (λ is. none_asked words no_replay no_run no_measure (not_behind (codes "gen") words no_gen) (behind (codes "drill") words None fit is)))
+    (λ no_drill. none_asked words no_replay no_run no_measure (not_behind (codes "gen") words no_gen) (not_behind (codes "drill") words no_drill))))))
 
 -- words that are those of a command ask for no other, and not for nothing
 some_number : {o : Option ℕ} {number : ℕ} → o ≡ Some number → is_some o ≡ true
@@ -172,8 +172,8 @@ drawn_asked words number (inl gen) = (draws.Gen, gen_asked words number gen)
 drawn_asked words number (inr drill) = (draws.Drill, drill_asked words number drill)
 
 -- where a command is asked for that takes no threads, it is the same
-pub batch_asked : {words : List (List ℕ)} {asked : Asked} → command_of words ≡ Some asked → without_threads (command_of words) ≡ without_threads (Some asked)
-batch_asked is = ap without_threads is
+pub batch_asked : (words : List (List ℕ)) {asked : Asked} → command_of words ≡ Some asked → without_threads (command_of words) ≡ without_threads (Some asked)
+batch_asked words is = ap without_threads is
 
 -- whether the words are `run` alone, and whether a text or a scenario is read
 pub run_is : (words : List (List ℕ)) → is_run words ≡ asks_run (command_of words)
@@ -221,6 +221,7 @@ reads_text_asked words reads = go (either (is_run words) (takes_text words) read
     more : (is_replay words ≡ true) ⊎ (is_measure words ≡ true) → asks_text (command_of words) ≡ true
     more (inl is) = ap asks_text (replay_asked words is)
     more (inr is) = ap asks_text (measure_asked words is)
+
     go : (is_run words ≡ true) ⊎ (takes_text words ≡ true) → asks_text (command_of words) ≡ true
     go (inl is) = ap asks_text (run_asked words is)
     go (inr takes) = more (either (is_replay words) (is_measure words) takes)
@@ -294,7 +295,7 @@ not_measure words is =
     or_false (is_measure words) (λ measures. forms_apart (codes "replay") (codes "measure") 1 1 words refl replays measures)
 
 pub batch_not_measure : (words : List (List ℕ)) → without_threads (command_of words) ≡ Some asks.Replay → is_measure words ≡ false
-batch_not_measure words is = or_false (is_measure words) (λ measures. let other = sym (batch_asked (measure_asked words measures)) ∙ is in absurd (cc))
+batch_not_measure words is = or_false (is_measure words) (λ measures. let other = sym (batch_asked words (measure_asked words measures)) ∙ is in absurd (cc))
 
 -- `run`, and what isn't
 pub run_alone : (asked : Option Asked) → asks_run asked ≡ true → asked ≡ Some asks.Run

@@ -19,10 +19,10 @@ returns g c =
     let came = c.carry_out-outcome.ensures in
     let ended = c.conclude.ensures in
     let exits : Exits (without_threads (command_of words)) c.conclude.result before now =
-        subst (λ (o : Option Asked). Exits (without_threads o) c.conclude.result before now) same
-        (concluded (without_threads c.read_words-asked.result) c.carry_out-outcome.result c.conclude.result before _ _ _ _ _ _ came.came ended.status ended.line ended.later came.taken came.later) in
-    let replay : is_replay words ≡ true → Exits (Some asks.Replay) c.conclude.result before now = λ replays. exits_as (batch_asked (replay_asked words replays)) exits in
-    let measure : is_measure words ≡ true → Exits (Some asks.Measure) c.conclude.result before now = λ measures. exits_as (batch_asked (measure_asked words measures)) exits in
+    subst (λ (o : Option Asked). Exits (without_threads o) c.conclude.result before now) same
+    (concluded (without_threads c.read_words-asked.result) c.carry_out-outcome.result c.conclude.result before _ _ _ _ _ _ came.came ended.status ended.line ended.later came.taken came.later) in
+    let replay : is_replay words ≡ true → Exits (Some asks.Replay) c.conclude.result before now = λ replays. exits_as (batch_asked words (replay_asked words replays)) exits in
+    let measure : is_measure words ≡ true → Exits (Some asks.Measure) c.conclude.result before now = λ measures. exits_as (batch_asked words (measure_asked words measures)) exits in
     record {
       exits = exits;
       source_read = λ zero takes. done_read exits zero (takes_asked words takes);
@@ -31,10 +31,10 @@ returns g c =
       items_in_order = λ zero replays. done_ordered (replay replays) zero;
       guest_memory_legal = λ zero replays. done_legal (replay replays) zero;
       digest_written = λ zero measures. (measure measures).done zero;
-      scenario_drawn = λ number zero gen. (exits_as (batch_asked (gen_asked words number gen)) exits).done zero;
-      drill_written = λ number zero drill. (exits_as (batch_asked (drill_asked words number drill)) exits).done zero;
+      scenario_drawn = λ number zero gen. (exits_as (batch_asked words (gen_asked words number gen)) exits).done zero;
+      drill_written = λ number zero drill. (exits_as (batch_asked words (drill_asked words number drill)) exits).done zero;
       source_unread = λ number asks. c.carry_out-outcome.ensures.unread (ap (λ (o : Option Asked). asks_text (without_threads o)) (same ∙ (drawn_asked words number asks).1));
-      drawn_statuses = λ number asks. drawn_exits (exits_as (batch_asked (drawn_asked words number asks).1) exits);
+      drawn_statuses = λ number asks. drawn_exits (exits_as (batch_asked words (drawn_asked words number asks).1) exits);
       statuses = exit_known exits;
       words_refused = (λ two. batch_none_is words (exit_nothing exits two), λ none. exit_where_nothing exits (batch_none_asks words none));
       words_line = exit_words_line exits;
@@ -57,11 +57,11 @@ returns g c =
       write_failed = exit_write_failed exits;
       report_cut = λ six replays. ((replay replays).cut six).0;
       digest_cut = λ six measures. ((measure measures).cut six).0;
-      scenario_cut = λ number six gen. ((exits_as (batch_asked (gen_asked words number gen)) exits).cut six).0;
-      drill_cut = λ number six drill. ((exits_as (batch_asked (drill_asked words number drill)) exits).cut six).0;
+      scenario_cut = λ number six gen. ((exits_as (batch_asked words (gen_asked words number gen)) exits).cut six).0;
+      drill_cut = λ number six drill. ((exits_as (batch_asked words (drill_asked words number drill)) exits).cut six).0;
       memory_line = exit_memory_line exits;
       later = exits.later;
       complete = λ text c' replays. replay_ends (replay replays) text c';
       digest_complete = λ text pages measures. measure_ends (measure measures) text pages;
-      drawn_complete = λ number asks. drawn_ends (exits_as (batch_asked (drawn_asked words number asks).1) exits);
+      drawn_complete = λ number asks. drawn_ends (exits_as (batch_asked words (drawn_asked words number asks).1) exits);
     }
