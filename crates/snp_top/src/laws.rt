@@ -16,9 +16,9 @@ ghost use Rattle.snp_top.specs.Exits.{Exits, Tells};
 ghost use Rattle.snp_top.specs.Input.{TakesAtMost};
 ghost use Rattle.snp_top.specs.Measures.{SaysCutDigest, SaysPageRefusal, WritesDigest};
 ghost use Rattle.snp_top.specs.Replays.{ReadsText, SaysOne};
-ghost use Rattle.snp_top.specs.Runs.{IsReported, are_commands, is_run, reads_scenario};
+ghost use Rattle.snp_top.specs.Runs.{IsReported, are_commands, is_run, reads_scenario, reads_text};
 ghost use Rattle.snp_top.specs.Schedule.{IsFirstBad};
-ghost use Rattle.snp_top.specs.Words.{AsksFor, command_of, without_threads};
+ghost use Rattle.snp_top.specs.Words.{AsksFor, command_of, takes_text, without_threads};
 
 use crate::words::{Asked, Drawn};
 use snp_model::{Quantity, Reason};
@@ -38,6 +38,11 @@ pub fn asking_words()
     ensures gen_words { (words : List (List ℕ)) (number : ℕ) → (gen_number words ≡ Some number) ↔ (command_of words ≡ Some (Asked.Drawn number Drawn.Gen)) }
     ensures drill_words { (words : List (List ℕ)) (number : ℕ) → (drill_number words ≡ Some number) ↔ (command_of words ≡ Some (Asked.Drawn number Drawn.Drill)) }
     ensures no_words { (words : List (List ℕ)) → (are_commands words ≡ false) ↔ (command_of words ≡ None) }
+
+    // `gen`, `drill` and words of no command ask for no text.
+    ensures drawn_unread { (words : List (List ℕ)) (number : ℕ) → AsksFor number words → (reads_text words ≡ false) × (takes_text words ≡ false) }
+    ensures none_unread { (words : List (List ℕ)) → are_commands words ≡ false → reads_text words ≡ false }
+    ensures batch_unread { (words : List (List ℕ)) → without_threads (command_of words) ≡ None → takes_text words ≡ false }
 
     // Where no command is taken that needs threads, `run` is none, and any other is the same.
     ensures without_run { (words : List (List ℕ)) → is_run words ≡ true → without_threads (command_of words) ≡ None }
