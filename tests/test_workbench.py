@@ -71,9 +71,9 @@ def says(args, status, parts, text='', program=None):
     """Runs the workbench and needs a status and parts of what it prints, on either stream."""
     ended = lab(args, text, program)
     both = ended.out + ended.err
-    need(ended.status == status, 'wanted status %d, got %d: %s' % (status, ended.status, both[:500]))
+    need(ended.status == status, f'wanted status {status}, got {ended.status}: {both[:500]}')
     for part in parts:
-        need(part in both, 'wanted %r in %r' % (part, both[:1500]))
+        need(part in both, f'wanted {part!r} in {both[:1500]!r}')
     need('Traceback' not in both and 'snp-lab itself' not in both, both)
     return ended
 
@@ -97,7 +97,7 @@ def cases_of_reports():
 
 
 def source_of(name):
-    return 'examples/%s.snp' % name if (TOP / 'examples' / (name + '.snp')).exists() else 'tests/cases/%s.in' % name
+    return f'examples/{name}.snp' if (TOP / 'examples' / (name + '.snp')).exists() else f'tests/cases/{name}.in'
 
 
 # Cases that need no program
@@ -110,7 +110,7 @@ def test_codes():
 def test_codes_in_process():
     """Each bit by itself, and random numbers: no code is met with anything but words."""
     for code in [1 << k for k in range(64)] + [random.Random(1).getrandbits(64) for _ in range(200)]:
-        need(codes.code_lines(['0x%x' % code]), code)
+        need(codes.code_lines([f'0x{code:x}']), code)
 
 
 def test_sealing():
@@ -135,26 +135,26 @@ def test_tables_are_cited():
         need(row.section in parts and row.condition in parts[row.section], 'docs/MODEL.md has no row ' + str(row))
     flat = re.sub(r'\s+', ' ', model)
     for number, (name, _) in codes.FIRMWARE_STATUSES.items():
-        need(re.search(r'(0x%02X|\b%d) %s' % (number, number, name), flat) or number == 0 and '0 SUCCESS' in flat, name)
+        need(re.search(rf'(0x{number:02X}|\b{number}) {name}', flat) or number == 0 and '0 SUCCESS' in flat, name)
     for number, (name, _) in codes.INSTRUCTION_STATUSES.items():
-        need(number == 0 or '%d %s' % (number, name) in flat, name)
+        need(number == 0 or f'{number} {name}' in flat, name)
 
 
 def test_formats_are_cited():
     formats = (TOP / 'docs/FORMATS.md').read_text()
     for reason in codes.REASONS:
-        need('| `%s` |' % reason in formats, reason)
+        need(f'| `{reason}` |' in formats, reason)
     for status in codes.EXIT_STATUSES:
-        need(re.search(r'^\| %d \|' % status, formats, re.M), status)
+        need(re.search(rf'^\| {status} \|', formats, re.M), status)
     for deed in ('begin', 'npt', 'gpt', 'data', 'host', 'lock', 'lockg', 'compute', 'commit', 'commitg', 'skip'):
-        need('| `%s' % deed in formats and deed in report.DEEDS, deed)
+        need(f'| `{deed}' in formats and deed in report.DEEDS, deed)
 
 
 def test_explained():
     for name, parts in EXPLAINED:
-        says(['explain', source_of(name), 'tests/cases/%s.out' % name], 0, parts)
+        says(['explain', source_of(name), f'tests/cases/{name}.out'], 0, parts)
     for name, number, parts in EXPLAINED_EVENTS:
-        says(['explain', '--event', str(number), source_of(name), 'tests/cases/%s.out' % name], 0, parts)
+        says(['explain', '--event', str(number), source_of(name), f'tests/cases/{name}.out'], 0, parts)
 
 
 def test_every_stored_report():
@@ -163,17 +163,17 @@ def test_every_stored_report():
         teller = tell.Teller(scenario.parse(text, name))
         for event in report.parse(stored, name).events:
             told = teller.tell(event)
-            need(not told.misfit, '%s: %s' % (name, told.lines))
-            need(not event.is_fault or told.decided and told.receiver, '%s: %s' % (name, told.lines))
-            need(event.outcome[:1] not in (('rc',), ('fw',)) or event.is_good or told.decided and told.because, '%s: %s' % (name, told.lines))
+            need(not told.misfit, f'{name}: {told.lines}')
+            need(not event.is_fault or told.decided and told.receiver, f'{name}: {told.lines}')
+            need(event.outcome[:1] not in (('rc',), ('fw',)) or event.is_good or told.decided and told.because, f'{name}: {told.lines}')
 
 
 def test_misfits():
     one_line(['explain', 'examples/page_of_another_guest.snp', 'tests/cases/remapped_between_two_loads.out'], ['don\'t belong together'])
     one_line(['explain', 'examples/unvalidated_page.snp', 'tests/cases/smallest.out'], ['by the scenario this should be `vc 0x404`'])
     for name, part, other, said in MISFITS:
-        stored = (HERE / ('cases/%s.out' % name)).read_text()
-        need(part in stored, '%s has no %r' % (name, part))
+        stored = (HERE / f'cases/{name}.out').read_text()
+        need(part in stored, f'{name} has no {part!r}')
         one_line(['explain', '--all', source_of(name), '-'], [said, 'don\'t belong together'], stored.replace(part, other, 1))
 
 
@@ -184,7 +184,7 @@ def test_refused():
 
 def test_help():
     for name in command.COMMANDS:
-        says([name, '--help'], 0, ['usage: snp-lab %s' % name, '--help'])
+        says([name, '--help'], 0, [f'usage: snp-lab {name}', '--help'])
     says(['--help'], 0, list(command.COMMANDS))
     says([], 2, ['usage: snp-lab'])
 
@@ -196,7 +196,7 @@ def test_as_a_process():
     need(ended.status == 2 and ended.err.startswith('snp-lab: ') and not ended.out, ended.err)
     stored = (HERE / 'cases/smallest.out').read_text()
     need(lab_process(['brief', '-'], stored).out.count('\n') == 2, 'brief')
-    early = subprocess.run('"%s" view examples/smallest.snp tests/cases/smallest.out | head -c 1' % LAB, shell=True, cwd=TOP,
+    early = subprocess.run(f'"{LAB}" view examples/smallest.snp tests/cases/smallest.out | head -c 1', shell=True, cwd=TOP,
                            stdout=subprocess.PIPE, stderr=subprocess.PIPE, timeout=SECONDS)
     need(early.stdout == b'<' and early.stderr == b'', early.stderr)
 
@@ -211,13 +211,13 @@ def test_brief():
 
 def test_patterns():
     for pattern, line, fits in PATTERNS:
-        need(bool(pattern_of(pattern).match(line)) == fits, '%r on %r' % (pattern, line))
+        need(bool(pattern_of(pattern).match(line)) == fits, f'{pattern!r} on {line!r}')
 
 
 def stub(folder, stored, status=0):
     """A program that answers each text with a stored output."""
     path = pathlib.Path(folder) / 'stub'
-    path.write_text('#!/bin/sh\ncat > /dev/null\ncat "%s"\nexit %d\n' % (stored, status))
+    path.write_text(f'#!/bin/sh\ncat > /dev/null\ncat "{stored}"\nexit {status}\n')
     path.chmod(0o755)
     return str(path)
 
@@ -231,7 +231,7 @@ def test_test_without_program():
         ended = says(['test', '-'], 1, ['TAP version 13\n1..11\n', 'ok 1 - standard input:1: expect 11 1', 'not ok 7 -',
                                         'the nearest is: 11 1 1.0 data 0x0:2 8 p load 0x5', 'this line stands there: 5 1 0.0 data',
                                         '2 lines are like it', 'the exit status is 0 and not 8', '# 6 passed, 5 failed'],
-                     ''.join('# expect %s\n' % one for one in good + bad), program)
+                     ''.join(f'# expect {one}\n' for one in good + bad), program)
         need(ended.out.count('\nok ') == 6 and ended.out.count('\nnot ok ') == 5, ended.out)
         says(['test', '-'], 1, ['1..1\nnot ok 1 - standard input: has an', 'it has no `# expect` line, so nothing was tested'], 'snp 1\n', program)
         refusing = stub(folder, HERE / 'cases/empty_word.out', 2)
@@ -270,7 +270,7 @@ class PageReader(html.parser.HTMLParser):
             self.open.append((tag, attrs.get('id')))
 
     def handle_endtag(self, tag):
-        need(self.open and self.open[-1][0] == tag, 'the element %s closes and %s is open' % (tag, self.open[-1:]))
+        need(self.open and self.open[-1][0] == tag, f'the element {tag} closes and {self.open[-1:]} is open')
         self.open.pop()
 
     def handle_data(self, data):
@@ -281,7 +281,7 @@ class PageReader(html.parser.HTMLParser):
 def read_page(text):
     reader = PageReader()
     reader.feed(text)
-    need(not reader.open, 'elements stay open: %s' % reader.open)
+    need(not reader.open, f'elements stay open: {reader.open}')
     need(reader.references == ['data:,'], reader.references)
     need(not re.search(r'https?://|url\(|@import', text), 'the page names another file')
     return reader, json.loads(reader.data)
@@ -307,7 +307,7 @@ def test_forms_to_come():
     walk = ['begin', 'npt 1:0 0x2007', 'npt 2:0 0x3007', 'npt 3:0 0x4007', 'npt 4:0 0x8007']
     events = ['1 2.0 ' + deed for deed in walk] + ['2 0.0 lock 8', '1 2.0 lock 8 rc 3 by 2', '2 0.0 commit 8 0x0 4k rc 0'] \
         + ['1 2.1 ' + deed for deed in walk] + ['1 2.1 lock 8 npf 0x580000005', '2 1.0 lock 8 rc 1', '3 0.0 lock 8 fw 0x1a']
-    lines = ['snp-report 1'] + ['%d %s' % pair for pair in enumerate(events)] + ['guest 1 running -', 'end %d' % len(events)]
+    lines = ['snp-report 1'] + [f'{k} {event}' for k, event in enumerate(events)] + ['guest 1 running -', f'end {len(events)}']
     stored = '\n'.join(lines) + '\n'
     with tempfile.TemporaryDirectory() as folder:
         file = pathlib.Path(folder) / 'later.snp'
@@ -323,12 +323,12 @@ def test_touches():
     head = BASE[:BASE.index('actor')].replace('regions 1', 'regions 3')
     for one, other, wanted in COMMUTING:
         for left, right in ((one, other), (other, one)):
-            read = scenario.parse(head + 'actor 1 %s\n%s\nactor 2 %s\n%s\nend\n' % (left[:2] + right[:2]), 'commuting')
-            made = [touches.touch_of(read, report.read_event(texts.Line('it', 1, '0 %d 0.0 %s' % (k + 1, part[2])), 0), False)
+            read = scenario.parse(head + f'actor 1 {left[0]}\n{left[1]}\nactor 2 {right[0]}\n{right[1]}\nend\n', 'commuting')
+            made = [touches.touch_of(read, report.read_event(texts.Line('it', 1, f'0 {k + 1} 0.0 {part[2]}'), 0), False)
                     for k, part in enumerate((left, right))]
-            need(made[0].commutes(made[1]) == wanted, '%s and %s' % (left, right))
+            need(made[0].commutes(made[1]) == wanted, f'{left} and {right}')
             rest = touches.bounds_of(read)[2][0]
-            need(wanted or not rest.commutes(made[0], touches.assigned_frames(read)), '%s before %s' % (left, right))
+            need(wanted or not rest.commutes(made[0], touches.assigned_frames(read)), f'{left} before {right}')
 
 
 def mutated(source, data):
@@ -404,17 +404,17 @@ def test_program_writes(program):
     orders = [('1!', '1*6'), ('1@data 2 1! 1!', '1*5 2 1*7'), ('1*2!', '1*12'), ('1@npt 2! 1!!', '1 2 1*11'), ('1*3 1! 2 1!', '1*6 2 1*6'),
               ('1! 1@begin 2', '1*6 2'), ('1! 2 1!!', '1*6 2 1*6')]
     for short, plain in orders:
-        ended = says(['write', '-'], 0, [], BASE + HOST + 'order %s\n' % short, program)
-        need(ended.out == BASE + HOST + '# order %s\norder %s\nend\n' % (short, plain), '%s: %s' % (short, ended.out[-120:]))
+        ended = says(['write', '-'], 0, [], BASE + HOST + f'order {short}\n', program)
+        need(ended.out == BASE + HOST + f'# order {short}\norder {plain}\nend\n', f'{short}: {ended.out[-120:]}')
     text = BASE + 'actor 2 host\n# rmpupdate 8 free retry 1\nrmpupdate 8 4k 0 0 0 0 retry 1\n'
     for short, plain in [('1@data 2@commit 1! 2!', '1*5 2 1 2'), ('2! 1!', '2*2 1*6')]:
-        ended = says(['write', '-'], 0, [], text + 'order %s\n' % short, program)
-        need(ended.out == text + '# order %s\norder %s\nend\n' % (short, plain), '%s: %s' % (short, ended.out[-120:]))
+        ended = says(['write', '-'], 0, [], text + f'order {short}\n', program)
+        need(ended.out == text + f'# order {short}\norder {plain}\nend\n', f'{short}: {ended.out[-120:]}')
     refused = [('1*3!', 'actor 1 has 2 items left here, and not 3'), ('3!', 'actor 3 is missing or finished here'),
                ('2@data', 'item 0 of actor 2 has no `data` here'), ('1!! 1!', 'actor 1 is missing or finished here'),
                ('1@jump', '`jump` is no deed'), ('1*13 2!', 'actor 1 has 12 events left here, and not 13')]
     for short, part in refused:
-        says(['write', '-'], 2, ['standard input:14: ', part], BASE + HOST + 'order %s\n' % short, program)
+        says(['write', '-'], 2, ['standard input:14: ', part], BASE + HOST + f'order {short}\n', program)
 
 
 def items_said(out):
@@ -452,10 +452,10 @@ def test_program_explores(program):
     for more in ([], ['--full'], ['--jobs', '1'], ['--most', '2', '--random', '200']):
         ended = says(['explore', '-'] + more, 0, ['checked: each schedule above'], text + 'end\n', program)
         said = items_said(ended.out)
-        need({key: set(table) for key, table in said.items()} == wanted, '%s: %s' % (more, said))
+        need({key: set(table) for key, table in said.items()} == wanted, f'{more}: {said}')
         for key, table in said.items():
             for outcome, order in table.items():
-                need(replayed(program, text, order)[key] == outcome, '%s: %s by %s' % (key, outcome, order))
+                need(replayed(program, text, order)[key] == outcome, f'{key}: {outcome} by {order}')
     says(['explore', '-', '--full'], 0, ['all 13 were run'], text + 'end\n', program)
     says(['explore', '-', '--joint'], 0,
          ['runs stand for all of them', '3 outcomes of the whole run\n  1 0: load 0x0; 1 1: load 0x0; 2 0: store'],
@@ -469,11 +469,11 @@ def test_program_explores_updates(program):
         text = (TOP / source_of(name)).read_text()
         for more in ([], ['--full'], ['--jobs', '1']):
             said = items_said(says(['explore', '-'] + more, 0, ['checked: each schedule above'], text, program).out)
-            need({key: set(table) for key, table in said.items()} == wanted, '%s %s: %s' % (name, more, said))
+            need({key: set(table) for key, table in said.items()} == wanted, f'{name} {more}: {said}')
         for key, table in said.items():
             for outcome, order in table.items():
                 found = replayed(program, text[:text.index('order ')], order)[key]
-                need(found == outcome.split(', then ')[-1], '%s: %s by %s' % (key, outcome, order))
+                need(found == outcome.split(', then ')[-1], f'{key}: {outcome} by {order}')
     says(['explore', '-', '--until', '... host 8:2 load 0x7'], 1, ['no run has such a line: all orders were tried'], text, program)
     says(['explore', '-', '--until', '* 1 0.0 data ... npf *'], 0, ['order 1*', 'npf 0x580000005'], text, program)
 
@@ -488,13 +488,13 @@ def test_program_reduces(program):
     shared = (TOP / 'examples/shared_page.snp').read_text()
     large = (TOP / 'examples/large_page_split_under_a_guest.snp').read_text()
     texts_of_all = [head + scripts for scripts in REDUCED]
-    second = 'guest 2 new asid 2 iv 0 key %s\npage 8' % KEY
+    second = f'guest 2 new asid 2 iv 0 key {KEY}\npage 8'
     texts_of_all += [head.replace('page 8', second) + scripts for scripts in REDUCED_FIRMWARE]
     texts_of_all += [large[:large.index('actor 1')] + scripts for scripts in REDUCED_LARGE]
     texts_of_all.append(shared[:shared.index('actor 1 cpu')]
                         + 'actor 1 cpu 1 vmpl 0 npt 1 gcr3 1\nstore 0x1010 5\nactor 2 host\nload 0xd010\n')
     searches = [(text + 'end\n', []) for text in texts_of_all]
-    searches += [(head + SEALING_HEAD + scripts + 'order 1*6 2*%d\nend\n' % before, ['--after', str(6 + before)])
+    searches += [(head + SEALING_HEAD + scripts + f'order 1*6 2*{before}\nend\n', ['--after', str(6 + before)])
                  for scripts, before in REDUCED_SEALING]
     for text, after in searches:
         few, all_of_them = (says(['explore', '-', '--joint'] + after + more, 0, ['checked'], text, program).out
@@ -514,7 +514,7 @@ def test_program_until(program):
 
 def test_program_stops(program):
     """A search that is stopped tells what was found."""
-    text = BASE + 'load 0x10\n' * 60 + ''.join('actor %d host\n%s' % (k, 'xor 0x4000 0x1000\n' * 20) for k in (2, 3, 4)) + 'end\n'
+    text = BASE + 'load 0x10\n' * 60 + ''.join(f'actor {k} host\n' + 'xor 0x4000 0x1000\n' * 20 for k in (2, 3, 4)) + 'end\n'
     search = subprocess.Popen([LAB, 'explore', '-', '--most', '1000000', '--jobs', '2'], stdin=subprocess.PIPE, stdout=subprocess.PIPE,
                               stderr=subprocess.PIPE, env={**os.environ, 'SNP': program}, start_new_session=True,
                               preexec_fn=lambda: signal.signal(signal.SIGINT, signal.SIG_DFL))  # a job in the background ignores it
@@ -529,7 +529,7 @@ def test_program_stops(program):
         if search.poll() is None:
             os.killpg(search.pid, signal.SIGKILL)
     need(shown.startswith(b'snp-lab: ') and b'branches waiting' in shown, shown)
-    need(search.returncode == 130, 'status %s: %s' % (search.returncode, err[-300:]))
+    need(search.returncode == 130, f'status {search.returncode}: {err[-300:]}')
     need(b'stopped by its user' in out and b'checked: each' in out and b'Traceback' not in err, out[:300] + err[-500:])
     says(['explore', '-', '--most', '1000000', '--seconds', '1'], 0, ['stopped after 1 s', 'checked: each'], text, program)
 
@@ -544,7 +544,7 @@ def test_program_tour(program):
     tour = (TOP / 'docs/WORKBENCH.md').read_text()
     out = says(['explore', '-'], 0, [], plain, program).out
     for line in out.split('\n')[:8]:
-        need('    ' + line in tour, 'docs/WORKBENCH.md has no line %r' % line)
+        need('    ' + line in tour, f'docs/WORKBENCH.md has no line {line!r}')
 
 
 
@@ -598,11 +598,11 @@ def test_near_expectations():
     for comment in ('# expcet 1 1 0.0', '# exepct status 3', '# Expect end 1', '# expect: end 1', '# expects end 1', '#  expect end 1',
                     '## expect end 1', '# expected status 3', '# except no ... npf *', '# EXPECT end 1', '#expct end 1'):
         word = re.search('[A-Za-z]+', comment).group(0)
-        one_line(['test', '-'], [f'standard input:2: `{word}` is no `expect`'], 'snp 1\n%s\n' % comment)
+        one_line(['test', '-'], [f'standard input:2: `{word}` is no `expect`'], f'snp 1\n{comment}\n')
     with tempfile.TemporaryDirectory() as folder:
         program = stub(folder, HERE / 'cases/smallest.out')
         for comment in ('# expected by the manual', '# Except for this, nothing.', '# what we expect: nothing', '# an expectation', '# expert'):
-            says(['test', '-'], 0, ['# 2 passed, 0 failed'], '%s\n# expect end 12\n' % comment, program)
+            says(['test', '-'], 0, ['# 2 passed, 0 failed'], f'{comment}\n# expect end 12\n', program)
 
 
 def test_junit_without_program():
@@ -625,13 +625,13 @@ def test_program_litmus(program):
     text = BASE.replace('store 0x10 5\n', 'load 0x10\n') + HOST
     good = ['never ... load 0x6', 'possible ... npf *', 'always ... host 4:0 store', 'always guest 1 running -', 'never guest 1 absent -',
             'possible 0 2 ...']
-    lines = ''.join('# expect %s\n' % line for line in good)
+    lines = ''.join(f'# expect {line}\n' for line in good)
     ended = says(['test', '-'], 0, ['all orders were tried, by ', '# 7 passed, 0 failed', 'as by this order'], lines + text + 'end\n', program)
     need('not all' not in ended.out, ended.out)
     for line, words in [('never ... npf *', 'this order has such a line'), ('always * 2 0.0 ... store', None),
                         ('possible ... load 0x6', 'all orders were tried'), ('always * 1 1.0 ... load 0x0', 'this order has no such line')]:
         ended = says(['test', '-'], 0 if words is None else 1, ['all orders were tried' if words is None else '# ' + words],
-                     '# expect %s\n' % line + text + 'end\n', program)
+                     f'# expect {line}\n' + text + 'end\n', program)
         if words and words.startswith('this'):
             order = re.search(r'# (order .*)', ended.out).group(1)
             found = subprocess.run([program, 'replay'], input=(text + order + '\nend\n').encode(), stdout=subprocess.PIPE, timeout=SECONDS).stdout.decode()
@@ -660,7 +660,7 @@ def test_program_before(program):
 def calls_of(folder, program):
     """A program that counts how often it is called."""
     path, log = pathlib.Path(folder) / 'counted', pathlib.Path(folder) / 'calls'
-    path.write_text('#!/bin/sh\necho >> "%s"\nexec "%s" "$@"\n' % (log, program))
+    path.write_text(f'#!/bin/sh\necho >> "{log}"\nexec "{program}" "$@"\n')
     path.chmod(0o755)
     return str(path), lambda: log.read_text().count('\n') if log.exists() else 0
 
@@ -673,7 +673,7 @@ def test_program_writes_by_one_call(program):
         with tempfile.TemporaryDirectory() as folder:
             counted, calls = calls_of(folder, program)
             plain = says(['write', '-'], 0, [], text, counted).out
-            need(calls() <= most, '%d calls for %s' % (calls(), text[-60:]))
+            need(calls() <= most, f'{calls()} calls for {text[-60:]}')
             says(['explain', '-'], 0, [], plain, program)
 
 
@@ -703,7 +703,7 @@ def test_program_drills(program):
         text = says(['drill', str(number)], 0, ['# expect end '], '', program).out
         found = subprocess.run([program, 'replay'], input=text.encode(), stdout=subprocess.PIPE, timeout=SECONDS).stdout
         drill = subprocess.run([program, 'drill', str(number)], stdout=subprocess.PIPE, timeout=SECONDS).stdout.decode()
-        need('report %s\n' % hashlib.sha256(found).hexdigest() in drill, number)
+        need(f'report {hashlib.sha256(found).hexdigest()}\n' in drill, number)
         says(['test', '-'], 0, ['# 2 passed, 0 failed'], text, program)
     for number in ('07', '-1', '18446744073709551616', 'x'):
         ended = lab(['drill', number], '', program)

@@ -1,9 +1,9 @@
 """The tables of tests/workbench: what is said of codes, reports and mistakes, and which events commute."""
 KEY = '0' * 64
 
-BASE = '''snp 1
+BASE = f'''snp 1
 regions 1
-guest 1 opened asid 1 iv 0 key %s
+guest 1 opened asid 1 iv 0 key {KEY}
 page 8 of 1 at 0 4k valid 0 0 0
 word 1 0 0x2007
 word 2 0 0x3007
@@ -12,7 +12,7 @@ word 4 0 0x8007
 actor 1 cpu 1 vmpl 0 npt 1 flat
 store 0x10 5
 load 0x10
-''' % KEY
+'''
 HOST = 'actor 2 host\nstore 0x4000 0x9007\n'
 
 # What is said of codes: the words of the command line, and what must stand in the answer.
@@ -304,12 +304,12 @@ PATTERNS = [
     ('a', 'a b', False), ('* *', 'a', False), ('a.c', 'abc', False), ('guest 1 running -', 'guest 1 running -', True),
 ]
 
-PLAIN = '''# a comment
+PLAIN = f'''# a comment
 snp 1
 regions 1
 # frame decoy 100
 # guest 1 opened asid 1
-guest 1 opened asid 1 iv 0 key %s
+guest 1 opened asid 1 iv 0 key {KEY}
 # page 64..65 of 1 at 0x0
 page 64 of 1 at 0x0 4k valid 0 0 0
 page 65 of 1 at 0x1 4k valid 0 0 0
@@ -340,7 +340,7 @@ store 0x9000 0x8000000004003
 store 0x9000 0x4003
 order 1*6 2
 end
-''' % KEY
+'''
 SHORT_TEXT = '''# a comment
 frame decoy 100
 map 1 root 1: 0x0..0x1 -> 64..65
@@ -358,11 +358,11 @@ store addr(9,0) shared(4)
 order 1*6 2
 '''
 
-PLAIN_UPDATES = '''snp 1
+PLAIN_UPDATES = f'''snp 1
 regions 2
 # frame big 2m
 # guest 1 opened asid 7
-guest 1 opened asid 7 iv 0 key %s
+guest 1 opened asid 7 iv 0 key {KEY}
 # page big of 1 at 0x200 2m
 page 512 of 1 at 0x200 2m valid 0 0 0
 # map 1 root 1: 0x200 -> big 2m
@@ -388,7 +388,7 @@ rmpupdate 512 2m 1 0x7 512 1
 #   large(big) sets bits 0 (present), 1 (writable), 2 (user) and 7 (a page of 2 MB)
 store 0x3008 0x200087
 end
-''' % KEY
+'''
 
 SHORT_LAUNCH = '''guest 1 new asid 3
 frame context
@@ -403,11 +403,11 @@ launch_update 1 8..9 retry 1
 launch_update 1 8 3 0 1 0 0
 page_move 1 8 context
 '''
-PLAIN_LAUNCH = '''snp 1
+PLAIN_LAUNCH = f'''snp 1
 regions 1
 # frame context
 # guest 1 new asid 3
-guest 1 new asid 3 iv 0 key %s
+guest 1 new asid 3 iv 0 key {KEY}
 actor 1 host
 # rmpupdate context firmware retry 2
 rmpupdate 10 4k 1 0 0 1 retry 2
@@ -426,7 +426,7 @@ launch_update 1 8 3 0 1 0 0
 # page_move 1 8 context
 page_move 1 8 10
 end
-''' % KEY
+'''
 
 # A page with two words, sealed: key, counter, ASID, guest page number, the words by their places, the last word of the ciphertext, and
 # the tag, by Python's `cryptography`.
@@ -485,7 +485,7 @@ COMMUTING = [
     (SWAP_OUT + ('commit 8 0x0 4k fw 0x0',), ('fw', 'swap_out 1 13 14 15 1', 'lockg 1'), False),  # the counter
     (SWAP_IN + ('compute',), ('host', 'store 0x9000 1', 'host 9:0 store'), False),  # the ciphertext is read
     (SWAP_IN + ('compute',), ('host', 'store 0xb000 1', 'host 11:0 store'), True),
-    (SWAP_IN + ('compute fw 0xb found %s kept %s' % ('0' * 32, '1' * 32),), FREE_10 + ('lock 10 rc 3 by 1',), False),  # it releases
+    (SWAP_IN + (f'compute fw 0xb found {"0" * 32} kept {"1" * 32}',), FREE_10 + ('lock 10 rc 3 by 1',), False),  # it releases
     (('fw', 'md_root_in 1 9 11', 'commit 11 0x0 4k fw 0x0'), ('fw', 'md_root_out 1 12 13', 'lockg 1 fw 0x100 by 1'), False),
     (('fw', 'md_root_in 1 9 11', 'commit 11 0x0 4k fw 0x0'), ('host', 'load 0xa000', 'host 10:0 load 0x0'), True),
 ]

@@ -2,7 +2,6 @@
 from __future__ import annotations
 
 from dataclasses import dataclass
-from typing import Optional
 
 from .texts import Complaint, number_of
 
@@ -17,7 +16,7 @@ class Row:
     """A row of a table of docs/MODEL.md, by its section, what the table is of, its number if it has one, and its words."""
     section: str
     table: str
-    number: Optional[int]
+    number: int | None
     condition: str
 
     def __str__(self) -> str:
@@ -329,7 +328,7 @@ def code_lines(words: list[str]) -> list[str]:
     if words and words[0] == 'error':
         return [f"{' '.join(words)}: {refusal_words(' '.join(words))}"]
     lines: list[str] = []
-    kind: Optional[str] = None
+    kind: str | None = None
     for word in words:
         value = number_of(word.lower())
         if value is None and (kind is not None or word == 'cf'):

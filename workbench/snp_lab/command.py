@@ -6,7 +6,7 @@ import os
 import shlex
 import sys
 from collections.abc import Callable
-from typing import TYPE_CHECKING, NoReturn, Optional
+from typing import TYPE_CHECKING, NoReturn
 
 from .texts import Complaint, read_text, shown
 
@@ -40,7 +40,7 @@ def parser() -> Parser:
     return top
 
 
-def add_command(commands: 'argparse._SubParsersAction[Parser]', name: str, summary: str, text: str,
+def add_command(commands: argparse._SubParsersAction[Parser], name: str, summary: str, text: str,
                 run: Callable[[argparse.Namespace], int]) -> Parser:
     made: Parser = commands.add_parser(name, help=summary, description=text, formatter_class=argparse.RawDescriptionHelpFormatter)
     made.set_defaults(run=run)
@@ -68,7 +68,7 @@ REPORT may be left out where the scenario's own `order` lines are to be replayed
 """
 
 
-def add_explain(commands: 'argparse._SubParsersAction[Parser]', name: str) -> None:
+def add_explain(commands: argparse._SubParsersAction[Parser], name: str) -> None:
     made = add_command(commands, name, 'fault codes and statuses in words, with what decided', EXPLAIN, run_explain)
     made.add_argument('words', nargs='+', metavar='WORD', help='SCENARIO and REPORT, or codes')
     made.add_argument('--all', action='store_true', help='each event, not just those that went wrong')
@@ -98,7 +98,7 @@ def explain_run(options: argparse.Namespace) -> int:
     return 0
 
 
-def pair(names: list[str], program: Optional[str]) -> 'tuple[Scenario, Report]':
+def pair(names: list[str], program: str | None) -> tuple[Scenario, Report]:
     """A scenario and its report, which the program is asked for where it isn't given."""
     from .program import program_from, report_or_fail
     from .report import parse as parse_report
@@ -118,7 +118,7 @@ refusals, and of skips. Begins, reads of tables that went on and locks that were
 """
 
 
-def add_brief(commands: 'argparse._SubParsersAction[Parser]', name: str) -> None:
+def add_brief(commands: argparse._SubParsersAction[Parser], name: str) -> None:
     made = add_command(commands, name, 'outcomes, data and host lines of a report alone', BRIEF, run_brief)
     made.add_argument('report', metavar='REPORT')
 
@@ -154,7 +154,7 @@ interleavings, as `explore` does, and say whether all were tried, and give a sch
 """
 
 
-def add_test(commands: 'argparse._SubParsersAction[Parser]', name: str) -> None:
+def add_test(commands: argparse._SubParsersAction[Parser], name: str) -> None:
     made = add_command(commands, name, 'scenarios that say what they must report, run and compared', TEST, run_test)
     made.add_argument('files', nargs='+', metavar='FILE')
     made.add_argument('--junit', metavar='FILE', help='writes the results as JUnit XML too')
@@ -201,7 +201,7 @@ Lines may come in any order. `snp`, `regions` and `end` may be left out. Where t
 """
 
 
-def add_write(commands: 'argparse._SubParsersAction[Parser]', name: str) -> None:
+def add_write(commands: argparse._SubParsersAction[Parser], name: str) -> None:
     made = add_command(commands, name, 'a plain scenario of a short one', WRITE, run_write)
     made.add_argument('file', metavar='SHORT')
     made.add_argument('--program', metavar='PATH', help=PROGRAM_HELP)
@@ -233,7 +233,7 @@ any other one makes the search full.
 """
 
 
-def add_explore(commands: 'argparse._SubParsersAction[Parser]', name: str) -> None:
+def add_explore(commands: argparse._SubParsersAction[Parser], name: str) -> None:
     made = add_command(commands, name, 'all interleavings, and the outcomes that each item can have', EXPLORE, run_explore)
     made.add_argument('scenario', metavar='SCENARIO')
     made.add_argument('--most', type=int, default=20000, metavar='N', help='the most runs that are made to try all (20000); 0 for none')
@@ -259,7 +259,7 @@ def run_explore(options: argparse.Namespace) -> int:
     text = read_text(options.scenario)
     program = program_from(options.program)
     if program.is_unproved:
-        print('snp-lab: no proved program is built, so each run takes half a minute; `rt ci` builds one, and --program names another',
+        print('snp-lab: no proved program is built, so each run takes half a minute; `./snp build` makes one, and --program names another',
               file=sys.stderr)
     made = Options(options.most, options.random, options.seed, options.jobs or default_jobs(), options.full, options.joint,
                    options.after, options.seconds, options.until)
@@ -332,7 +332,7 @@ scenario's own `order` lines are to be replayed.
 """
 
 
-def add_view(commands: 'argparse._SubParsersAction[Parser]', name: str) -> None:
+def add_view(commands: argparse._SubParsersAction[Parser], name: str) -> None:
     made = add_command(commands, name, 'a report as a page of HTML', VIEW, run_view)
     made.add_argument('scenario', metavar='SCENARIO')
     made.add_argument('report', metavar='REPORT', nargs='?')
@@ -346,7 +346,7 @@ def run_view(options: argparse.Namespace) -> int:
     return 0
 
 
-COMMANDS: dict[str, Callable[['argparse._SubParsersAction[Parser]', str], None]] = {
+COMMANDS: dict[str, Callable[[argparse._SubParsersAction[Parser], str], None]] = {
     'explain': add_explain, 'test': add_test, 'write': add_write, 'explore': add_explore, 'drill': add_drill,
     'shrink': add_shrink, 'view': add_view,
     'brief': add_brief,

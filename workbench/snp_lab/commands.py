@@ -5,9 +5,8 @@ the commands that seal and open pages do beyond that is in `seals`.
 """
 from __future__ import annotations
 
-from dataclasses import dataclass
 from collections.abc import Callable
-from typing import Optional
+from dataclasses import dataclass
 
 from . import codes, seals
 from .codes import Row
@@ -27,7 +26,7 @@ class Asked:
     """What a command asks: the states of its guest, where it names one, and whether it is bound; for each of its pages, in the
     order of their locks, the states, and whether it must be the guest's; and whether a compute comes before the commit."""
     states: tuple[str, ...] = ()
-    bound: Optional[bool] = None
+    bound: bool | None = None
     pages: tuple[tuple[tuple[str, ...], bool], ...] = ()
     computes: bool = False
 
@@ -83,7 +82,7 @@ def asked_words(item: Item) -> str:
     return f"`{item.word}` asks for one that is {' or '.join(asked.states)}{bound}"
 
 
-def context_refusal(watch: Watch, item: Item) -> Optional[Refusal]:
+def context_refusal(watch: Watch, item: Item) -> Refusal | None:
     """The first row that refuses the lock of a context; none where it is taken."""
     guest, frames, asked = item.operands[0], frames_of(item), COMMANDS[item.word]
     if guest not in watch.scenario.guests:
@@ -103,7 +102,7 @@ def context_refusal(watch: Watch, item: Item) -> Optional[Refusal]:
     return refusal_said(seals.context_extra(watch, item))
 
 
-def asid_refusal(watch: Watch, item: Item) -> Optional[Refusal]:
+def asid_refusal(watch: Watch, item: Item) -> Refusal | None:
     """What `activate` tests of its ASID."""
     guest, asid = item.operands
     others = [other.number for other in watch.scenario.guests.values() if other.asid == asid and other.number != guest]
@@ -115,7 +114,7 @@ def asid_refusal(watch: Watch, item: Item) -> Optional[Refusal]:
     return None
 
 
-def page_refusal(watch: Watch, item: Item, place: int) -> Optional[Refusal]:
+def page_refusal(watch: Watch, item: Item, place: int) -> Refusal | None:
     """The first row that refuses the lock of the page at this place; none where it is taken."""
     frame = frames_of(item)[place]
     states, is_owned = COMMANDS[item.word].pages[place]
@@ -139,11 +138,11 @@ def page_refusal(watch: Watch, item: Item, place: int) -> Optional[Refusal]:
     return refusal_said(seals.page_extra(watch, item, place)) if is_sealing else None
 
 
-def refusal_said(said: Optional[seals.Said]) -> Optional[Refusal]:
+def refusal_said(said: seals.Said | None) -> Refusal | None:
     return None if said is None else Refusal(*said)
 
 
-def refusal_of(watch: Watch, event: Event, attempt: Attempt, item: Item) -> Optional[Refusal]:
+def refusal_of(watch: Watch, event: Event, attempt: Attempt, item: Item) -> Refusal | None:
     """The first row that refuses a lock or a compute; none where it goes on."""
     if event.kind == 'compute':
         return refusal_said(seals.compute_refusal(watch, item)) if item.operands[0] in watch.scenario.guests else None
@@ -160,7 +159,7 @@ def is_known(watch: Watch, event: Event, item: Item) -> bool:
     return frame >= watch.scenario.frames or watch.facts_of(frame) is not None
 
 
-def row_of_status(event: Event) -> Optional[Row]:
+def row_of_status(event: Event) -> Row | None:
     """The row by the status alone, where the tests aren't known."""
     table = codes.FIRMWARE_ROWS.get(int(event.outcome[1], 0), []) if len(event.outcome) > 1 else []
     asked = {'lockg': codes.CONTEXT, 'lock': codes.PAGE, 'compute': codes.COMPUTE}[event.kind]
@@ -168,7 +167,7 @@ def row_of_status(event: Event) -> Optional[Row]:
     return fitting[0] if len(fitting) == 1 else None
 
 
-def fault(watch: Watch, event: Event, attempt: Attempt, item: Item, refusal: Optional[Refusal]) -> str:
+def fault(watch: Watch, event: Event, attempt: Attempt, item: Item, refusal: Refusal | None) -> str:
     """What an event of a command should be by the scenario, where it is another one."""
     deeds = deeds_of(item)
     place = len(attempt.events)
@@ -185,7 +184,7 @@ def fault(watch: Watch, event: Event, attempt: Attempt, item: Item, refusal: Opt
     return ''
 
 
-def commit_of(watch: Watch, attempt: Attempt, item: Item) -> Optional[str]:
+def commit_of(watch: Watch, attempt: Attempt, item: Item) -> str | None:
     """The commit of a command with its outcome; nothing where the report alone tells its page."""
     frames = frames_of(item)
     if not frames:
@@ -244,7 +243,7 @@ def move_words(watch: Watch, item: Item) -> str:
 
 def reclaim_words(watch: Watch, item: Item) -> str:
     frame = item.operands[0]
-    facts: Optional[Facts] = watch.facts_of(frame)
+    facts: Facts | None = watch.facts_of(frame)
     whole = '' if facts is None or not facts.is_large else ', and the whole page of 2 MB that it stands in,'
     if facts is None:
         return f'frame {frame} is given back'

@@ -6,7 +6,6 @@ picks among the actors that aren't finished. The program writes the scenario and
 from __future__ import annotations
 
 import hashlib
-from typing import Optional
 
 from . import report
 from .codes import refusal_words
@@ -91,7 +90,7 @@ def drilled(program: Program, number: int) -> str:
     raise Complaint(f"the picks of drill {number} don't come to an end")
 
 
-def next_end(scenario: Scenario, found: report.Report, since: tuple[int, list[int]]) -> Optional[tuple[int, int]]:
+def next_end(scenario: Scenario, found: report.Report, since: tuple[int, list[int]]) -> tuple[int, int] | None:
     """Behind how many events the next actor has finished, and that actor."""
     for event in found.events[since[0]:]:
         if event.actor in since[1] and next_item(scenario, event) >= len(scenario.actors[event.actor].items):

@@ -5,7 +5,7 @@ What is the same for a whole range of 2 MB is kept once, so that an RMPUPDATE of
 from __future__ import annotations
 
 from dataclasses import dataclass, field, replace
-from typing import Any, Optional
+from typing import Any
 
 LARGE = 512
 
@@ -36,7 +36,7 @@ class Facts:
             return 'Pre-Swap' if self.validated else 'Pre-Guest'
         return 'Guest-Valid' if self.validated else 'Guest-Invalid'
 
-    def at_place(self, place: int) -> 'Facts':
+    def at_place(self, place: int) -> Facts:
         """The facts of the frame at this place of a range, where these are those of its first frame."""
         return replace(self, gpn=self.gpn + place) if place and self.asid else self
 
@@ -66,10 +66,10 @@ def frames_words(frames: range) -> str:
 @dataclass
 class Entries:
     """The facts of all frames. Those that scenario and report don't determine are None; frames that aren't named are free."""
-    whole: dict[int, Optional[Facts]] = field(default_factory=dict)
-    single: dict[int, dict[int, Optional[Facts]]] = field(default_factory=dict)
+    whole: dict[int, Facts | None] = field(default_factory=dict)
+    single: dict[int, dict[int, Facts | None]] = field(default_factory=dict)
 
-    def at(self, frame: int) -> Optional[Facts]:
+    def at(self, frame: int) -> Facts | None:
         region, place = divmod(frame, LARGE)
         own = self.single.get(region)
         if own is not None and place in own:
@@ -77,7 +77,7 @@ class Entries:
         head = self.whole.get(region, FREE)
         return None if head is None else head.at_place(place)
 
-    def put(self, frames: range, facts: Optional[Facts]) -> None:
+    def put(self, frames: range, facts: Facts | None) -> None:
         """Gives frames their facts, by those of the first one."""
         if is_whole(frames):
             self.whole[frames.start // LARGE] = facts
@@ -98,7 +98,7 @@ class Entries:
         for frame in frames:
             self.put(range(frame, frame + 1), changed(self.at(frame), fields))
 
-    def first(self, frames: range, field_name: str) -> Optional[int]:
+    def first(self, frames: range, field_name: str) -> int | None:
         """The first frame of a range whose facts have a field set; unknown facts are passed over."""
         if is_whole(frames) and frames.start // LARGE not in self.single:
             facts = self.at(frames.start)
@@ -112,7 +112,7 @@ class Entries:
         return all(self.at(frame) is not None for frame in frames)
 
 
-def changed(facts: Optional[Facts], fields: dict[str, Any]) -> Optional[Facts]:
+def changed(facts: Facts | None, fields: dict[str, Any]) -> Facts | None:
     return None if facts is None else replace(facts, **fields)
 
 
@@ -128,6 +128,6 @@ class Marks:
         else:
             self.single.update((frame, event) for frame in frames)
 
-    def at(self, frame: int) -> Optional[int]:
+    def at(self, frame: int) -> int | None:
         last = max(self.single.get(frame, -1), self.whole.get(frame // LARGE, -1))
         return None if last < 0 else last

@@ -7,7 +7,6 @@ import re
 import time
 from collections.abc import Callable, Sequence
 from dataclasses import dataclass, field
-from typing import Optional
 
 from . import litmus
 from .codes import refusal_words
@@ -37,7 +36,7 @@ def is_near(word: str) -> bool:
     return swapped or gone or other or more
 
 
-def nearly(text: str) -> Optional[str]:
+def nearly(text: str) -> str | None:
     """The word of a comment that was meant as `expect`, if there is one."""
     found = FIRST.match(text)
     if found is None or MARK.match(text):
@@ -63,7 +62,7 @@ class Expectation:
     def is_litmus(self) -> bool:
         return self.kind in litmus.KINDS
 
-    def fault(self, answer: Answer) -> Optional[str]:
+    def fault(self, answer: Answer) -> str | None:
         """What is wrong with an answer, if anything."""
         if self.kind == 'status':
             return None if answer.status == self.number else status_fault(answer, self.number)
@@ -104,7 +103,7 @@ class Case:
     expectations: list[Expectation] = field(default_factory=list)
 
 
-def read_expectation(line: Line) -> Optional[Expectation]:
+def read_expectation(line: Line) -> Expectation | None:
     """The expectation of a comment line, if it has one."""
     found = MARK.match(line.text)
     near = nearly(line.text)
@@ -154,7 +153,7 @@ class Result:
     """What came of one expectation: what is wrong, if anything, and what is told besides."""
     title: str
     line: int
-    fault: Optional[str]
+    fault: str | None
     notes: tuple[str, ...] = ()
 
 
@@ -209,7 +208,7 @@ def files_below(names: Sequence[str]) -> list[str]:
     return files
 
 
-def run_cases(names: Sequence[str], make: Callable[[], Program], junit: Optional[str], most: int) -> int:
+def run_cases(names: Sequence[str], make: Callable[[], Program], junit: str | None, most: int) -> int:
     """Runs files and folders and prints TAP; the exit status is 1 where an expectation isn't met."""
     from .results import junit_text, print_tap
     cases = [read_case(name) for name in files_below(names)]

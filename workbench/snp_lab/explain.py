@@ -1,8 +1,6 @@
 """The lines of `explain` for a scenario and its report."""
 from __future__ import annotations
 
-from typing import Optional
-
 from .report import Event, Report
 from .scenario import Scenario
 from .tell import Teller
@@ -16,7 +14,7 @@ def is_notable(event: Event) -> bool:
     return not event.is_good or event.outcome[0] == 'opaque' or event.outcome[:4] == ('rc', '0', 'cf', '1')
 
 
-def explained(scenario: Scenario, report: Report, every: bool, number: Optional[int]) -> list[str]:
+def explained(scenario: Scenario, report: Report, every: bool, number: int | None) -> list[str]:
     """The explanations of the events that are asked for, with an empty line between them. A report of another scenario is complained of
     at the first event that shows it."""
     if number is not None and not 0 <= number < len(report.events):

@@ -10,7 +10,7 @@ import time
 from collections.abc import Callable
 from concurrent.futures import FIRST_COMPLETED, Future, ProcessPoolExecutor, wait
 from dataclasses import dataclass, field
-from typing import Any, Optional, Union
+from typing import Any, Union
 
 from .before import read_before
 from .codes import outcome_words
@@ -38,7 +38,7 @@ class Options:
     full: bool = False
     joint: bool = False
     after: int = 0
-    seconds: Optional[float] = None
+    seconds: float | None = None
     until: list[str] = field(default_factory=list)
 
 
@@ -64,7 +64,7 @@ class Found:
         put(self.wholes, tuple(sorted(outcomes.items())), place)
         put(self.likes, likes, place)
 
-    def with_like(self, bits: int, wanted: int) -> Optional[Rank]:
+    def with_like(self, bits: int, wanted: int) -> Rank | None:
         """The best schedule whose report has just these of some patterns."""
         return min((place for likes, (_, place) in self.likes.items() if likes & bits == wanted), default=None)
 
@@ -112,7 +112,7 @@ def start_worker(search: Search) -> None:
     SHARED['search'] = search
 
 
-def work(branches: list[tuple[bytes, Optional[int]]]) -> list[Told]:
+def work(branches: list[tuple[bytes, int | None]]) -> list[Told]:
     """Runs branches to their ends."""
     search = SHARED['search']
     played = [search.run(Branch(before, actor)) for before, actor in branches]
@@ -179,7 +179,7 @@ class Explorer:
         return (1 << len(self.search.patterns)) - 1
 
     @property
-    def hit(self) -> Optional[Rank]:
+    def hit(self) -> Rank | None:
         """The best schedule whose report has all that was looked for."""
         return self.found.with_like(self.every_like, self.every_like) if self.search.patterns else None
 
@@ -218,7 +218,7 @@ class Explorer:
         caught = [one for one in (signal.SIGINT, signal.SIGTERM) if signal.getsignal(one) != signal.SIG_IGN]
         old = [(one, signal.signal(one, stop)) for one in caught]
         progress, start = Progress(), time.monotonic()
-        pool: Optional[ProcessPoolExecutor] = None
+        pool: ProcessPoolExecutor | None = None
         try:
             self.first_run()
             if self.options.jobs > 1 and (self.branches or self.options.most <= 0) and not self.is_over(start):
@@ -240,7 +240,7 @@ class Explorer:
         one = self.search
         return Search(one.program, one.scenario, one.head, waits=one.waits, totals=dict(one.totals))
 
-    def next_branch(self) -> Optional[Branch]:
+    def next_branch(self) -> Branch | None:
         """The newest branch that wants a run; those that are known without one are gone through at once."""
         while self.branches:
             branch = self.branches.pop()
@@ -260,7 +260,7 @@ class Explorer:
             batch.append(branch)
         return batch
 
-    def exhaust(self, pool: Optional[ProcessPoolExecutor], progress: Progress, start: float) -> None:
+    def exhaust(self, pool: ProcessPoolExecutor | None, progress: Progress, start: float) -> None:
         """Tries branches until none is left or the most is reached."""
         running: dict[Future[list[Told]], list[Branch]] = {}
         left = self.options.most - self.found.runs
@@ -288,7 +288,7 @@ class Explorer:
             self.branches += batch
             one.cancel()
 
-    def at_random(self, pool: Optional[ProcessPoolExecutor], progress: Progress, start: float) -> None:
+    def at_random(self, pool: ProcessPoolExecutor | None, progress: Progress, start: float) -> None:
         """Random interleavings, where there are more than the most."""
         seeds = [f'{self.options.seed}.{k}' for k in range(self.options.random)]
         batches = [seeds[k:k + BATCH] for k in range(0, len(seeds), BATCH)]

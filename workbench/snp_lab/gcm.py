@@ -4,7 +4,7 @@ from __future__ import annotations
 import importlib
 from collections.abc import Callable, Sequence
 from functools import lru_cache
-from typing import Any, Optional
+from typing import Any
 
 WORDS = 512
 PAGE_BYTES = 8 * WORDS
@@ -158,7 +158,7 @@ class OfLibrary:
         return self.sealed(key, counter, asid, gpn, self.crypted(key, counter, cipher))[PAGE_BYTES:]
 
 
-def library() -> Optional[OfLibrary]:
+def library() -> OfLibrary | None:
     """`cryptography`, where it is installed."""
     try:
         return OfLibrary()

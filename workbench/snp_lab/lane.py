@@ -5,7 +5,6 @@ Nothing is decided here: it notes what the machine that follows scenario and rep
 from __future__ import annotations
 
 from dataclasses import dataclass, field
-from typing import Optional
 
 from .entries import Facts, is_whole
 from .machine import Attempt, Watch
@@ -22,14 +21,14 @@ class Held:
     frames: range
     actor: int
     taken: int
-    released: Optional[int] = None
+    released: int | None = None
 
 
 @dataclass
 class Recorder(Watch):
     """A watch that keeps what it notes: the frames of each change with the facts of the first, and the locks."""
     now: int = OPENING
-    changes: list[tuple[int, range, Optional[Facts]]] = field(default_factory=list)
+    changes: list[tuple[int, range, Facts | None]] = field(default_factory=list)
     held: list[Held] = field(default_factory=list)
     open_locks: dict[int, list[Held]] = field(default_factory=dict)
 

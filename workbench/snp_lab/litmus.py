@@ -3,7 +3,6 @@ from __future__ import annotations
 
 from collections.abc import Sequence
 from dataclasses import dataclass
-from typing import Optional
 
 from .explore import Explorer, Found, Options, Rank, by_number, default_jobs
 from .program import Program
@@ -20,7 +19,7 @@ class Verdict:
     schedule: str = ''
 
 
-def decisive(kind: str, found: Found, bit: int) -> Optional[Rank]:
+def decisive(kind: str, found: Found, bit: int) -> Rank | None:
     """A schedule that decides a line by itself: one that has it, or for `always` one that doesn't."""
     return found.with_like(bit, 0 if kind == 'always' else bit)
 

@@ -5,9 +5,9 @@ changes. A fact that the two don't determine is None.
 """
 from __future__ import annotations
 
-from dataclasses import dataclass, field, replace
 from collections.abc import Callable
-from typing import Any, Optional
+from dataclasses import dataclass, field, replace
+from typing import Any
 
 from . import seals
 from .entries import FREE, LARGE, RECLAIM, Entries, Facts, Marks, frames_from, meet
@@ -36,13 +36,13 @@ class Lock:
 class Attempt:
     """An attempt, by its events so far, and what its walks have come to."""
     events: list[Event] = field(default_factory=list)
-    gpn: Optional[int] = None
+    gpn: int | None = None
     level: int = 4
     table_reads: int = 0
     is_private: bool = True
     is_final: bool = False
     leaf_is_large: bool = False
-    made: Optional[seals.Made] = None
+    made: seals.Made | None = None
 
 
 @dataclass
@@ -57,7 +57,7 @@ class Watch:
     attempts: dict[int, Attempt] = field(default_factory=dict)
     memory: Memory = field(default_factory=Memory)
     counters: dict[int, int] = field(default_factory=dict)
-    roots: dict[int, Optional[Entry]] = field(default_factory=dict)
+    roots: dict[int, Entry | None] = field(default_factory=dict)
     archive: dict[tuple[int, int], Content] = field(default_factory=dict)
     last_write: dict[tuple[int, int], int] = field(default_factory=dict)
     commits: dict[int, Event] = field(default_factory=dict)
@@ -77,13 +77,13 @@ class Watch:
         for (frame, index), word in self.scenario.words.items():
             self.memory.write(frame, index, word)
 
-    def facts_of(self, frame: int) -> Optional[Facts]:
+    def facts_of(self, frame: int) -> Facts | None:
         return self.rmp.at(frame)
 
-    def actor_of(self, event: Event) -> Optional[Actor]:
+    def actor_of(self, event: Event) -> Actor | None:
         return self.scenario.actors.get(event.actor)
 
-    def item_of(self, event: Event) -> Optional[Item]:
+    def item_of(self, event: Event) -> Item | None:
         actor = self.actor_of(event)
         return actor.items[event.item] if actor is not None and event.item < len(actor.items) else None
 
@@ -97,7 +97,7 @@ class Watch:
         """The frames that a lock covers: the range of RMPUPDATE, and else the page in which the frame stands."""
         return item.frames if item.word == 'rmpupdate' else self.page_frames(frame)
 
-    def holder(self, frames: range) -> Optional[tuple[int, Lock]]:
+    def holder(self, frames: range) -> tuple[int, Lock] | None:
         """The lowest locked frame of a range, with its lock."""
         held = [(max(lock.frames.start, frames.start), lock) for lock in self.locks if meet(lock.frames, frames)]
         return min(held, key=lambda one: one[0]) if held else None
@@ -226,7 +226,7 @@ class Watch:
         self.rmp.change(frames, **fields)
         self.note_change(frames, event)
 
-    def put(self, frames: range, event: Event, facts: Optional[Facts]) -> None:
+    def put(self, frames: range, event: Event, facts: Facts | None) -> None:
         self.rmp.put(frames, facts)
         self.note_change(frames, event)
 

@@ -8,7 +8,6 @@ from __future__ import annotations
 import re
 from collections.abc import Callable
 from dataclasses import dataclass
-from typing import Optional
 
 from . import commands, report
 from .codes import refusal_words
@@ -159,7 +158,7 @@ class Planner:
             if event.outcome:
                 self.seen[event.actor, self.scenario.actors[event.actor].items[event.item].word] = made.pop(event.actor)
 
-    def is_settled(self, events: list[Event], end: Optional[int]) -> bool:
+    def is_settled(self, events: list[Event], end: int | None) -> bool:
         """Whether each word has the events that it says; if not, the first that doesn't is put right, and the rest guessed anew."""
         start = 0
         self.look(events)

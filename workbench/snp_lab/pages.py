@@ -4,9 +4,9 @@ Ciphertexts and tags are computed when they are asked for, so that a report with
 """
 from __future__ import annotations
 
-from dataclasses import dataclass, field
 from collections.abc import Sequence
-from typing import Optional, Union
+from dataclasses import dataclass, field
+from typing import Union
 
 from . import gcm
 from .gcm import WORDS
@@ -21,7 +21,7 @@ METADATA_GPN = 1 << 63
 class Words:
     """Words by their places; the others are zero. `was` is the ciphertext that stood there before some of them were written."""
     known: dict[int, int] = field(default_factory=dict)
-    was: Optional['Sealed'] = None
+    was: Sealed | None = None
 
     def word(self, index: int) -> int:
         return self.known.get(index, 0)
@@ -29,7 +29,7 @@ class Words:
     def all(self) -> list[int]:
         return [self.word(index) for index in range(WORDS)]
 
-    def copy(self) -> 'Words':
+    def copy(self) -> Words:
         return Words(dict(self.known), self.was)
 
 
@@ -43,7 +43,7 @@ class Entry:
     gpn: int
     permissions: tuple[int, int, int, int]
     counter: int
-    sealed: Optional['Sealed'] = None
+    sealed: Sealed | None = None
     read_tag: bytes = b''
 
     @property
@@ -58,7 +58,7 @@ class Entry:
         return gcm.words_of(data + bytes(16))
 
 
-def entry_from(words: Sequence[int]) -> Optional[Entry]:
+def entry_from(words: Sequence[int]) -> Entry | None:
     """The entry that eight words say; none where it isn't in use."""
     data = gcm.bytes_of(words)
     if data[0] != 1:
@@ -71,9 +71,9 @@ def entry_from(words: Sequence[int]) -> Optional[Entry]:
 class Table:
     """The entries in use of a metadata page. `raw` has its words where they may have more than these entries."""
     entries: dict[int, Entry] = field(default_factory=dict)
-    raw: Optional[list[int]] = None
+    raw: list[int] | None = None
 
-    def put(self, place: int, entry: Optional[Entry]) -> None:
+    def put(self, place: int, entry: Entry | None) -> None:
         if entry is None:
             self.entries.pop(place, None)
         else:
@@ -92,7 +92,7 @@ class Table:
             made += self.entries[place].words if place in self.entries else [0] * ENTRY_WORDS
         return made
 
-    def copy(self) -> 'Table':
+    def copy(self) -> Table:
         return Table(dict(self.entries), None if self.raw is None else list(self.raw))
 
 
@@ -109,11 +109,11 @@ class Sealed:
     counter: int
     asid: int
     gpn: int
-    plain: 'Content'
+    plain: Content
     frame: int
     event: int
-    made: Optional[list[int]] = None
-    made_tag: Optional[bytes] = None
+    made: list[int] | None = None
+    made_tag: bytes | None = None
 
     def all(self) -> list[int]:
         if self.made is None:
@@ -129,7 +129,7 @@ class Sealed:
     def word(self, index: int) -> int:
         return self.all()[index]
 
-    def copy(self) -> 'Sealed':
+    def copy(self) -> Sealed:
         return self
 
 

@@ -6,9 +6,9 @@ import pathlib
 import re
 import shutil
 import subprocess
+import sys
 import time
 from dataclasses import dataclass
-from typing import Optional
 
 from .texts import Complaint
 
@@ -25,7 +25,7 @@ class Answer:
     output: str
 
     @property
-    def refused_entry(self) -> Optional[tuple[int, int]]:
+    def refused_entry(self) -> tuple[int, int] | None:
         """The entry of the schedule that names an actor that is missing or finished, and that actor."""
         found = REFUSED_ENTRY.match(self.output)
         return (int(found.group(1)), int(found.group(2))) if found else None
@@ -61,7 +61,7 @@ STREAMS: list[Streams] = []
 def spawned(words: list[str], text: bytes) -> tuple[int, bytes, bytes]:
     """The exit status of a process (below 0 for a signal), its output, and what it said on standard error."""
     if not hasattr(os, 'memfd_create'):
-        ended = subprocess.run(words, input=text, stdout=subprocess.PIPE, stderr=subprocess.PIPE, close_fds=False)
+        ended = subprocess.run(words, input=text, capture_output=True, close_fds=False)
         return ended.returncode, ended.stdout, ended.stderr
     if not STREAMS or STREAMS[0].owner != os.getpid():  # a process of a pool has files of its own
         STREAMS[:] = [Streams()]
@@ -95,11 +95,26 @@ class Program:
         return pathlib.Path(self.path) == SCRIPT and not os.access(BUILT, os.X_OK)
 
 
-def program_from(option: Optional[str]) -> Program:
+def tell_doubt() -> None:
+    """Tells on standard error, as `./snp` does, where the built program isn't known to be of the sources that stand here."""
+    if not (TOP / 'crates.txt').exists():  # an unpacked archive has no sources
+        return
+    try:
+        said = subprocess.run([str(SCRIPT), 'doubt'], stdin=subprocess.DEVNULL, capture_output=True).stdout.decode('utf-8', 'replace')
+    except OSError:
+        return
+    if said:
+        print(f'snp-lab: {said.strip()}', file=sys.stderr)
+
+
+def program_from(option: str | None) -> Program:
     """The program to ask: `--program`, else what SNP names, else the repository's own."""
     named = option or os.environ.get('SNP')
+    if named is None and not os.access(BUILT, os.X_OK):
+        return Program(str(SCRIPT))
     if named is None:
-        return Program(str(BUILT if os.access(BUILT, os.X_OK) else SCRIPT))
+        tell_doubt()
+        return Program(str(BUILT))
     path = shutil.which(named)
     if path is None:
         raise Complaint('there is no program of this name that can be run', named)

@@ -12,7 +12,6 @@ import random
 import re
 from collections import deque
 from dataclasses import dataclass, field
-from typing import Optional
 
 from .before import Key
 from .codes import refusal_words
@@ -31,10 +30,10 @@ class Branch:
     """What is still to be tried: a schedule's beginning, and the actor that then comes. `state` is the state there, `key` its key, and
     `steps` is the whole run where it is known without asking the program."""
     before: bytes
-    actor: Optional[int] = None
+    actor: int | None = None
     key: bytes = b''
-    state: Optional[State] = None
-    steps: Optional[list[Step]] = None
+    state: State | None = None
+    steps: list[Step] | None = None
 
 
 @dataclass
@@ -78,7 +77,7 @@ class Search:
     def text_of(self, schedule: bytes) -> str:
         return '\n'.join(self.head + order_lines(runs_of(list(schedule))) + ['end']) + '\n'
 
-    def ask(self, schedule: bytes) -> tuple[Optional[Played], int]:
+    def ask(self, schedule: bytes) -> tuple[Played | None, int]:
         """The run of a schedule, or the entry of it that names a finished actor."""
         answer = self.program.replay(self.text_of(schedule))
         if answer.status == 0:
@@ -162,7 +161,7 @@ class Search:
             schedule += bytes([left[0]]) * self.bound(left[0])
         raise Complaint("the scripts don't end where the reports say, so this scenario can't be explored", self.scenario.name)
 
-    def too_early(self, found: Played, start: int) -> Optional[tuple[int, int]]:
+    def too_early(self, found: Played, start: int) -> tuple[int, int] | None:
         """The first event that begins an item which has to wait, and the actor whose item must be done first."""
         if not self.waits:
             return None
@@ -208,14 +207,13 @@ class Search:
             key = path.state.key() if self.reduce else bytes(path.schedule)
             tried = self.tried.get(key)
             if tried is None:
-                self.tried[key] = {step.event.actor}
+                self.tried[key] = set()
                 others = [] if is_alone else [actor for actor in path.enabled() if actor != step.event.actor]
                 state = path.state.copy() if others else None
                 made += [Branch(bytes(path.schedule), actor, key, state, path.with_first(actor)) for actor in others]
             elif step.event.actor in tried:
                 break  # all that comes behind this was tried, or waits to be
-            else:
-                tried.add(step.event.actor)
+            self.tried[key].add(step.event.actor)
             path.take(step)
             forced = None
         return made
@@ -224,7 +222,7 @@ class Search:
 class Path:
     """The events of a run one after the other, where one that commutes with all that may come goes before its place."""
 
-    def __init__(self, search: Search, steps: list[Step], start: int, state: Optional[State]) -> None:
+    def __init__(self, search: Search, steps: list[Step], start: int, state: State | None) -> None:
         self.search = search
         self.taken = list(steps[:start])
         self.schedule = bytearray(step.event.actor for step in self.taken)
@@ -242,7 +240,7 @@ class Path:
     def may_go(self, actor: int) -> bool:
         return self.state.may_go(actor, self.search.waits)
 
-    def next_step(self, forced: Optional[int]) -> tuple[Step, bool]:
+    def next_step(self, forced: int | None) -> tuple[Step, bool]:
         """The next event, and whether it goes first, so that no other one has to be tried in its place."""
         if forced is not None:
             return self.own[forced][0], False
@@ -254,7 +252,7 @@ class Path:
     def enabled(self) -> list[int]:
         return [actor for actor, queue in self.own.items() if queue and self.may_go(actor)]
 
-    def with_first(self, actor: int) -> Optional[list[Step]]:
+    def with_first(self, actor: int) -> list[Step] | None:
         """The run in which an actor's next event comes here, where it commutes with all that came before it."""
         step = self.own[actor][0]
         rest: list[Step] = []

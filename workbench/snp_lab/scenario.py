@@ -8,7 +8,6 @@ from __future__ import annotations
 import difflib
 from collections.abc import Callable
 from dataclasses import dataclass, field
-from typing import Optional
 
 from .texts import Complaint, Line, hex_of, need_number, number_of, told_lines
 
@@ -148,7 +147,7 @@ def close_word(word: str, others: list[str]) -> str:
 class Reader:
     """Reads a text line by line, and remembers where what may stand once was said."""
     scenario: Scenario
-    actor: Optional[Actor] = None
+    actor: Actor | None = None
     section: int = -1
     section_line: int = 0
     asids: dict[int, int] = field(default_factory=dict)

@@ -3,7 +3,7 @@ commit changes. The rows are those of docs/MODEL.md, "Commands of the firmware".
 from __future__ import annotations
 
 from dataclasses import dataclass, replace
-from typing import TYPE_CHECKING, Optional, Union
+from typing import TYPE_CHECKING
 
 from . import codes, gcm
 from .codes import Row
@@ -44,14 +44,14 @@ def slot_words(item: Item) -> str:
     return f'the root of guest {item.operands[0]}' if has_root(item) else f'entry {item.operands[4]} of frame {item.operands[3]}'
 
 
-def slot_entry(watch: 'Watch', item: Item) -> Optional[Entry]:
+def slot_entry(watch: Watch, item: Item) -> Entry | None:
     """The entry that an item names, or the root, where it is in use."""
     if has_root(item):
         return watch.roots.get(item.operands[0])
     return watch.memory.table(item.operands[3]).entries.get(item.operands[4])
 
 
-def entry_words(watch: 'Watch', item: Item, entry: Optional[Entry]) -> str:
+def entry_words(watch: Watch, item: Item, entry: Entry | None) -> str:
     """What an entry is, in words."""
     if entry is None:
         return f"{slot_words(item)} isn't in use"
@@ -59,17 +59,17 @@ def entry_words(watch: 'Watch', item: Item, entry: Optional[Entry]) -> str:
     return f'{slot_words(item)} is that of {what} of {watch.guest_name(entry.asid)}, under counter {entry.counter}'
 
 
-def foreign_entry(watch: 'Watch', guest: int, table: Table) -> Optional[tuple[int, Entry]]:
+def foreign_entry(watch: Watch, guest: int, table: Table) -> tuple[int, Entry] | None:
     """The first entry in use of a metadata page that is another guest's."""
     asid = watch.scenario.guests[guest].asid
     return next(((place, entry) for place, entry in sorted(table.entries.items()) if entry.asid != asid), None)
 
 
-def foreign_words(watch: 'Watch', found: tuple[int, Entry]) -> str:
+def foreign_words(watch: Watch, found: tuple[int, Entry]) -> str:
     return f'entry {found[0]} there is that of {watch.guest_name(found[1].asid)}'
 
 
-def context_extra(watch: 'Watch', item: Item) -> Optional[Said]:
+def context_extra(watch: Watch, item: Item) -> Said | None:
     """What the lock of a context tests beyond its guest's state."""
     guest = item.operands[0]
     root = watch.roots.get(guest)
@@ -82,7 +82,7 @@ def context_extra(watch: 'Watch', item: Item) -> Optional[Said]:
     return None
 
 
-def page_extra(watch: 'Watch', item: Item, place: int) -> Optional[Said]:
+def page_extra(watch: Watch, item: Item, place: int) -> Said | None:
     """What the lock of a page tests beyond its state and owner: a metadata page that is sealed, and the entry of another."""
     if place == 0 and item.word in ('md_out', 'md_root_out'):
         found = foreign_entry(watch, item.operands[0], watch.memory.table(item.operands[1]))
@@ -90,7 +90,7 @@ def page_extra(watch: 'Watch', item: Item, place: int) -> Optional[Said]:
     return entry_extra(watch, item) if place == 2 else None
 
 
-def entry_extra(watch: 'Watch', item: Item) -> Optional[Said]:
+def entry_extra(watch: Watch, item: Item) -> Said | None:
     entry = slot_entry(watch, item)
     because = entry_words(watch, item, entry)
     if item.word in OUTS:
@@ -102,7 +102,7 @@ def entry_extra(watch: 'Watch', item: Item) -> Optional[Said]:
     return None
 
 
-def opened(watch: 'Watch', item: Item, entry: Entry) -> Union[Content, Said]:
+def opened(watch: Watch, item: Item, entry: Entry) -> Content | Said:
     """The words that a page is opened to, or what refuses it."""
     source = watch.memory.at(item.operands[1])
     if isinstance(source, Sealed) and source is entry.sealed:
@@ -121,7 +121,7 @@ def opened(watch: 'Watch', item: Item, entry: Entry) -> Union[Content, Said]:
     return table if foreign is None else ('fw 0x1c', codes.COMPUTE[1], foreign_words(watch, foreign))
 
 
-def tag_words(watch: 'Watch', item: Item, source: Content, entry: Entry) -> str:
+def tag_words(watch: Watch, item: Item, source: Content, entry: Entry) -> str:
     """Why a tag is another than the one that was kept."""
     kept = f'event {entry.sealed.event} sealed' if entry.sealed is not None else 'was sealed'
     wanted = f'and {slot_words(item)} is for the one that {kept} under counter {entry.counter}'
@@ -134,7 +134,7 @@ def tag_words(watch: 'Watch', item: Item, source: Content, entry: Entry) -> str:
     return f'frame {item.operands[1]} has no ciphertext that a command put there, {wanted}'
 
 
-def compute_refusal(watch: 'Watch', item: Item) -> Optional[Said]:
+def compute_refusal(watch: Watch, item: Item) -> Said | None:
     """What refuses the compute of a command that opens a page."""
     entry = slot_entry(watch, item)
     if item.word in OUTS or entry is None:
@@ -143,7 +143,7 @@ def compute_refusal(watch: 'Watch', item: Item) -> Optional[Said]:
     return answer if isinstance(answer, tuple) else None
 
 
-def made_by(watch: 'Watch', event: Event, item: Item) -> Optional[Made]:
+def made_by(watch: Watch, event: Event, item: Item) -> Made | None:
     """What a compute makes that isn't refused."""
     if item.word in OUTS:
         return sealed_by(watch, event, item)
@@ -152,7 +152,7 @@ def made_by(watch: 'Watch', event: Event, item: Item) -> Optional[Made]:
     return None if entry is None or answer is None or isinstance(answer, tuple) else Made(entry, answer)
 
 
-def sealed_by(watch: 'Watch', event: Event, item: Item) -> Made:
+def sealed_by(watch: Watch, event: Event, item: Item) -> Made:
     guest, frame = watch.scenario.guests[item.operands[0]], item.operands[1]
     counter, facts = watch.counters[guest.number], watch.facts_of(frame) or Facts()
     is_page = kind_of(item) == GUEST_PAGE
@@ -163,7 +163,7 @@ def sealed_by(watch: 'Watch', event: Event, item: Item) -> Made:
     return Made(entry, sealed)
 
 
-def commit_deed(watch: 'Watch', item: Item, made: Optional[Made]) -> Optional[str]:
+def commit_deed(watch: Watch, item: Item, made: Made | None) -> str | None:
     """The commit of a command that seals or opens, without its outcome; nothing where its compute isn't known."""
     frame = item.operands[1 if item.word in OUTS else 2]
     if kind_of(item) == METADATA_PAGE:
@@ -171,7 +171,7 @@ def commit_deed(watch: 'Watch', item: Item, made: Optional[Made]) -> Optional[st
     return None if made is None else f'commit {frame} {hex_of(made.entry.gpn)} 4k'
 
 
-def commit(watch: 'Watch', event: Event, item: Item, made: Made) -> None:
+def commit(watch: Watch, event: Event, item: Item, made: Made) -> None:
     """What a commit changes: pages, the entry or the root, and the counter."""
     source, target = item.operands[1:3]
     if item.word in OUTS:
@@ -188,7 +188,7 @@ def commit(watch: 'Watch', event: Event, item: Item, made: Made) -> None:
         watch.memory.table(item.operands[3]).put(item.operands[4], slot)
 
 
-def give_up(watch: 'Watch', event: Event, item: Item, source: int) -> None:
+def give_up(watch: Watch, event: Event, item: Item, source: int) -> None:
     """The page that was sealed: the guest's is Reclaim, a metadata page Firmware, with zero words."""
     frames = range(source, source + 1)
     watch.memory.clear(frames)
@@ -198,7 +198,7 @@ def give_up(watch: 'Watch', event: Event, item: Item, source: int) -> None:
         watch.change(frames, event, kind='Firmware')
 
 
-def bring_back(watch: 'Watch', event: Event, item: Item, target: int, made: Made) -> None:
+def bring_back(watch: Watch, event: Event, item: Item, target: int, made: Made) -> None:
     """The page that was opened: the guest's with the entry's facts, or a metadata page."""
     frames, entry = range(target, target + 1), made.entry
     watch.memory.put(target, made.content.copy())
@@ -209,7 +209,7 @@ def bring_back(watch: 'Watch', event: Event, item: Item, target: int, made: Made
     watch.put(frames, event, replace(facts, gpn=entry.gpn, validated=entry.validated, vmsa=entry.vmsa, permissions=entry.permissions))
 
 
-def refills(watch: 'Watch', item: Item, made: Optional[Made], zeroed: str) -> dict[range, str]:
+def refills(watch: Watch, item: Item, made: Made | None, zeroed: str) -> dict[range, str]:
     """What a commit does to the words of whole frames."""
     source, target = (range(frame, frame + 1) for frame in item.operands[1:3])
     if item.word in OUTS:
@@ -222,7 +222,7 @@ def refills(watch: 'Watch', item: Item, made: Optional[Made], zeroed: str) -> di
     return {target: f'opened the page here from frame {source.start}, {since}'}
 
 
-def compute_words(watch: 'Watch', event: Event, item: Item) -> list[str]:
+def compute_words(watch: Watch, event: Event, item: Item) -> list[str]:
     """What a compute does."""
     frame = item.operands[1]
     if item.word in OUTS:
@@ -235,13 +235,13 @@ def compute_words(watch: 'Watch', event: Event, item: Item) -> list[str]:
     return words
 
 
-def is_foreign(watch: 'Watch', item: Item, entry: Entry) -> bool:
+def is_foreign(watch: Watch, item: Item, entry: Entry) -> bool:
     """Whether a page has other words than the ciphertext that was sealed for the guest under the entry's counter."""
     source, kept = watch.memory.at(item.operands[1]), watch.archive.get((item.operands[0], entry.counter))
     return kept is None or source is not kept and source.all() != kept.all()
 
 
-def commit_words(watch: 'Watch', item: Item) -> str:
+def commit_words(watch: Watch, item: Item) -> str:
     """What a commit changes, in words."""
     source, target = item.operands[1:3]
     if item.word in OUTS:

@@ -8,7 +8,6 @@ from __future__ import annotations
 import re
 from collections.abc import Callable, Iterator
 from dataclasses import dataclass, field, replace
-from typing import Optional
 
 from . import report
 from .patterns import pattern_of
@@ -70,7 +69,7 @@ class Shrinker:
     wanted: str
     name: str
     tries: int = 0
-    known: dict[str, Optional[list[Event]]] = field(default_factory=dict)
+    known: dict[str, list[Event] | None] = field(default_factory=dict)
 
     def __post_init__(self) -> None:
         found = STATUS.match(self.wanted)
@@ -82,7 +81,7 @@ class Shrinker:
             return answer.status == self.status
         return any(self.pattern.match(line) for line in answer.output.split('\n')[:-1])
 
-    def events(self, draft: Draft) -> Optional[list[Event]]:
+    def events(self, draft: Draft) -> list[Event] | None:
         """The events of a draft's report where it still shows what is wanted (none where it has no report); else None."""
         text = draft.text
         if text not in self.known:
@@ -92,7 +91,7 @@ class Shrinker:
             self.known[text] = made if self.shows(answer) else None
         return self.known[text]
 
-    def mended(self, draft: Draft) -> Optional[Draft]:
+    def mended(self, draft: Draft) -> Draft | None:
         """A draft that still shows it, where need be without the turns of actors that have finished."""
         for _ in range(len(draft.scripts) + 1):
             if self.events(draft) is not None:

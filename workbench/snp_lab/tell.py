@@ -1,8 +1,8 @@
 """Each event of a report in words: what was done, how it ended, which row of which table decided, and who gets the fault."""
 from __future__ import annotations
 
-from dataclasses import dataclass, field
 from collections.abc import Callable
+from dataclasses import dataclass, field
 from typing import Optional
 
 from . import codes, commands, seals, updates
@@ -107,7 +107,7 @@ class Teller:
         """Which row decided, why, and who gets the fault."""
         event = told.event
         told.receiver = receiver(event)
-        decision: Optional[Decision] = None
+        decision: Decision | None = None
         if event.kind == 'npt':
             decision = self.nested_decision(told, event, attempt, item)
         elif event.kind == 'gpt' and event.deed[3] != '-':
@@ -126,7 +126,7 @@ class Teller:
 
     # Walks
 
-    def nested_decision(self, told: Told, event: Event, attempt: Attempt, item: Item) -> Optional[Decision]:
+    def nested_decision(self, told: Told, event: Event, attempt: Attempt, item: Item) -> Decision | None:
         """The row of a nested walk that ended an attempt at a read."""
         decision = self.nested_row(event, attempt, item)
         writes = item.writes or not attempt.is_final
@@ -139,7 +139,7 @@ class Teller:
             return None
         return decision
 
-    def nested_row(self, event: Event, attempt: Attempt, item: Item) -> Optional[Decision]:
+    def nested_row(self, event: Event, attempt: Attempt, item: Item) -> Decision | None:
         """The first row of a nested walk that applies to the word that was read, and why."""
         word = int(event.deed[2], 0)
         below = self.frame_below(word, attempt)
@@ -165,7 +165,7 @@ class Teller:
             return below - below % 512 + attempt.gpn % 512
         return below
 
-    def guest_decision(self, told: Told, event: Event, item: Item) -> Optional[Decision]:
+    def guest_decision(self, told: Told, event: Event, item: Item) -> Decision | None:
         """The row of a guest walk that ended an attempt at a table's word."""
         word = int(event.deed[3], 0)
         write = 2 if item.writes else 0
@@ -181,7 +181,7 @@ class Teller:
 
     # Checks of the RMP
 
-    def check_decision(self, told: Told, event: Event, attempt: Attempt, actor: Actor, item: Item) -> Optional[Decision]:
+    def check_decision(self, told: Told, event: Event, attempt: Attempt, actor: Actor, item: Item) -> Decision | None:
         """The row of the RMP's table that refused or hid an access; none where it passed."""
         facts = self.watch.facts_of(event.frame)
         if facts is None:
@@ -201,17 +201,17 @@ class Teller:
             return self.origin(told, event, item)
         return row, self.check_words(row, facts, event, actor, item) + self.watch.change_words(event.frame)
 
-    def private_row(self, facts: Facts, gpn: int, leaf_is_large: bool, actor: Actor, is_write: bool, is_read: bool) -> Optional[Row]:
+    def private_row(self, facts: Facts, gpn: int, leaf_is_large: bool, actor: Actor, is_write: bool, is_read: bool) -> Row | None:
         needs = (1 if is_read else 0) | (2 if is_write else 0)
         refused = (not facts.assigned or facts.asid != self.scenario.guests[actor.guest].asid, facts.gpn != gpn, facts.immutable,
                    not facts.is_large and leaf_is_large, not facts.validated, facts.permissions[actor.vmpl] & needs != needs)
         return next((row for row, applies in zip(codes.PRIVATE, refused) if applies), None)
 
     @staticmethod
-    def open_row(facts: Facts, item: Item, table: list[Row]) -> Optional[Row]:
+    def open_row(facts: Facts, item: Item, table: list[Row]) -> Row | None:
         return None if not facts.assigned else table[0 if item.writes else 1]
 
-    def expected(self, row: Optional[Row], event: Event, item: Item) -> Optional[tuple[str, ...]]:
+    def expected(self, row: Row | None, event: Event, item: Item) -> tuple[str, ...] | None:
         """The outcome that a row gives."""
         if row is None:
             return None
@@ -243,7 +243,7 @@ class Teller:
             return f"{entry}, and {'the access writes' if item.writes else loads}"
         return entry
 
-    def origin(self, told: Told, event: Event, item: Item) -> Optional[Decision]:
+    def origin(self, told: Told, event: Event, item: Item) -> Decision | None:
         """Where a word that was read comes from."""
         if event.kind == 'gpt':
             return None
@@ -267,7 +267,7 @@ class Teller:
 
     # Begins, locks and contexts
 
-    def begin_decision(self, told: Told, event: Event, actor: Actor, item: Item) -> Optional[Decision]:
+    def begin_decision(self, told: Told, event: Event, actor: Actor, item: Item) -> Decision | None:
         if event.outcome[0] == 'offline':
             return codes.OFFLINE, f"guest {actor.guest} is {self.watch.states.get(actor.guest, '?')}"
         address = item.operands[0]
@@ -287,7 +287,7 @@ class Teller:
         return codes.BEGIN['target' if event.outcome[1] == '2' else 'mask'], (f'target VMPL {item.operands[2]}, mask {item.operands[3]}, by '
                                                                               f'VMPL{actor.vmpl}')
 
-    def lock_decision(self, event: Event, attempt: Attempt, actor: Actor, item: Item) -> Optional[Decision]:
+    def lock_decision(self, event: Event, attempt: Attempt, actor: Actor, item: Item) -> Decision | None:
         if item.word in updates.INSTRUCTIONS:
             return None
         return None if item.word in commands.COMMANDS else self.validate_words(event, attempt, actor, item)
@@ -295,7 +295,7 @@ class Teller:
     def decide_command(self, told: Told, attempt: Attempt, item: Item) -> None:
         """The row that refused a lock or a compute of a command; an event that the scenario doesn't give is a misfit."""
         event = told.event
-        refusal: Optional[commands.Refusal] = None
+        refusal: commands.Refusal | None = None
         due = commands.deeds_of(item)[len(attempt.events):len(attempt.events) + 1]
         if event.kind in ('lock', 'lockg', 'compute') and ' '.join(event.deed) in due:
             refusal = commands.refusal_of(self.watch, event, attempt, item)
@@ -327,7 +327,7 @@ class Teller:
         held = self.watch.holder(self.watch.page_frames(frame))
         return self.watch.holder_words(*held) if held is not None else f'actor {holder} holds the lock'
 
-    def validate_words(self, event: Event, attempt: Attempt, actor: Actor, item: Item) -> Optional[Decision]:
+    def validate_words(self, event: Event, attempt: Attempt, actor: Actor, item: Item) -> Decision | None:
         frame = int(event.deed[1])
         facts = self.watch.facts_of(frame)
         entry = self.watch.entry_words(frame)
@@ -345,7 +345,7 @@ class Teller:
                 3: (codes.VALIDATE[1], self.held_words(frame, event.outcome[-1])),
                 6: (codes.VALIDATE[4], entry)}.get(status)
 
-    def adjust_permission(self, facts: Optional[Facts], actor: Actor, item: Item) -> Optional[Decision]:
+    def adjust_permission(self, facts: Facts | None, actor: Actor, item: Item) -> Decision | None:
         if facts is None or item.word != 'rmpadjust':
             return None
         own, mask = facts.permissions[actor.vmpl], item.operands[3]

@@ -3,9 +3,9 @@ from __future__ import annotations
 
 import re
 import sys
-from dataclasses import dataclass
 from collections.abc import Iterator
-from typing import NoReturn, Optional
+from dataclasses import dataclass
+from typing import NoReturn
 
 DECIMAL = re.compile(r'(?:0|[1-9][0-9]*)\Z')
 HEX = re.compile(r'0x[0-9a-f]{1,16}\Z')
@@ -18,7 +18,7 @@ NAMED_BYTES = {'\r': 'a carriage return', '\t': 'a tab', '\ufeff': 'a byte order
 class Complaint(Exception):
     """Something wrong with an input or a command, told without a trace of Python."""
 
-    def __init__(self, message: str, name: Optional[str] = None, line: Optional[int] = None) -> None:
+    def __init__(self, message: str, name: str | None = None, line: int | None = None) -> None:
         super().__init__(message)
         self.message = message
         self.name = name
@@ -95,7 +95,7 @@ def told_lines(text: str, name: str) -> Iterator[Line]:
         yield line
 
 
-def number_of(word: str) -> Optional[int]:
+def number_of(word: str) -> int | None:
     """The number that a word is, as scenarios have numbers."""
     if DECIMAL.match(word):
         value = int(word)
@@ -106,7 +106,7 @@ def number_of(word: str) -> Optional[int]:
     return value if value < 1 << 64 else None
 
 
-def decimal_of(word: str) -> Optional[int]:
+def decimal_of(word: str) -> int | None:
     """The number that a word is, where it is decimal."""
     return int(word) if DECIMAL.match(word) else None
 

@@ -44,7 +44,7 @@ class Touch:
     own: bool = False
     everything: bool = False
 
-    def commutes(self, other: 'Touch') -> bool:
+    def commutes(self, other: Touch) -> bool:
         if self.own or other.own:
             return True
         if self.everything or other.everything:

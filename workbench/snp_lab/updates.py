@@ -5,7 +5,6 @@ The rows are decided by the entries and locks that scenario and report tell, and
 from __future__ import annotations
 
 from dataclasses import dataclass
-from typing import Optional
 
 from . import codes
 from .codes import Row
@@ -27,7 +26,7 @@ class Refusal:
     because: str
 
 
-def bad_update(item: Item, frames: int) -> Optional[tuple[Row, str]]:
+def bad_update(item: Item, frames: int) -> tuple[Row, str] | None:
     """The test that the operands of an RMPUPDATE fail, before any entry is looked at."""
     frame, size, assigned, asid, gpn, immutable = item.operands
     if frame >= frames:
@@ -45,7 +44,7 @@ def bad_update(item: Item, frames: int) -> Optional[tuple[Row, str]]:
     return None
 
 
-def bad_smash(item: Item, frames: int) -> Optional[tuple[Row, str]]:
+def bad_smash(item: Item, frames: int) -> tuple[Row, str] | None:
     """The same of a PSMASH."""
     frame = item.operands[0]
     if frame >= frames:
@@ -53,7 +52,7 @@ def bad_smash(item: Item, frames: int) -> Optional[tuple[Row, str]]:
     return (codes.SMASH[0], f'frame {frame} is no multiple of 512') if frame % 512 else None
 
 
-def bad_operands(item: Item, frames: int) -> Optional[tuple[Row, str]]:
+def bad_operands(item: Item, frames: int) -> tuple[Row, str] | None:
     return bad_update(item, frames) if item.word == 'rmpupdate' else bad_smash(item, frames)
 
 
@@ -61,7 +60,7 @@ def outside_words(frame: int, frames: int) -> str:
     return f'frame {frame} is outside memory, which has {frames} frames'
 
 
-def refusal_of(watch: Watch, item: Item) -> Optional[Refusal]:
+def refusal_of(watch: Watch, item: Item) -> Refusal | None:
     """The first row that applies where the lock is asked for; none where the lock is taken."""
     bad = bad_operands(item, watch.scenario.frames)
     if bad is not None:
@@ -74,7 +73,7 @@ def refusal_of(watch: Watch, item: Item) -> Optional[Refusal]:
     return update_refusal(watch, item) if is_update else smash_refusal(watch, item)
 
 
-def update_refusal(watch: Watch, item: Item) -> Optional[Refusal]:
+def update_refusal(watch: Watch, item: Item) -> Refusal | None:
     """Rows 3 and 4 of RMPUPDATE."""
     first = watch.facts_of(item.operands[0])
     is_large = first is not None and first.is_large
@@ -88,13 +87,13 @@ def update_refusal(watch: Watch, item: Item) -> Optional[Refusal]:
     return Refusal('rc 2', codes.UPDATE[3], cause(watch, immutable)) if immutable is not None else None
 
 
-def smash_refusal(watch: Watch, item: Item) -> Optional[Refusal]:
+def smash_refusal(watch: Watch, item: Item) -> Refusal | None:
     """Rows 3 and 4 of PSMASH."""
     frame = item.operands[0]
     facts = watch.facts_of(frame)
     if facts is not None and not facts.is_large:
-        is_free = '%s, and so in no page of 2 MB' if not facts.assigned else '%s, in a page of 4 KB'
-        return Refusal('rc 1', codes.SMASH[2], is_free % watch.entry_words(frame) + watch.change_words(frame))
+        why = ', in a page of 4 KB' if facts.assigned else ', and so in no page of 2 MB'
+        return Refusal('rc 1', codes.SMASH[2], watch.entry_words(frame) + why + watch.change_words(frame))
     return Refusal('rc 2', codes.SMASH[3], cause(watch, frame)) if facts is not None and facts.immutable else None
 
 
@@ -110,14 +109,14 @@ def are_known(watch: Watch, item: Item) -> bool:
     return watch.rmp.are_known(item.frames)
 
 
-def row_of_status(event: Event, item: Item) -> Optional[Row]:
+def row_of_status(event: Event, item: Item) -> Row | None:
     """The row by the status alone, where the entries aren't known."""
     status = number_of(event.outcome[1]) or 0 if event.outcome else 0
     rows = {1: 0, 3: 1, 4: 2, 2: 3} if item.word == 'rmpupdate' else {1: 2, 3: 1, 2: 3}
     return (codes.UPDATE if item.word == 'rmpupdate' else codes.SMASH)[rows[status]] if status in rows else None
 
 
-def lock_fault(event: Event, attempt: Attempt, item: Item, refusal: Optional[Refusal], known: bool) -> str:
+def lock_fault(event: Event, attempt: Attempt, item: Item, refusal: Refusal | None, known: bool) -> str:
     """What a lock event should be by the scenario, where it is another one."""
     if int(event.deed[1]) != item.operands[0]:
         return f'the lock of frame {item.operands[0]}'

@@ -2,8 +2,8 @@
 from __future__ import annotations
 
 import re
-from dataclasses import dataclass, field
 from collections.abc import Callable
+from dataclasses import dataclass, field
 
 from . import order
 from .entries import LARGE
@@ -351,11 +351,11 @@ def write_launch(draft: Draft, entry: Entry) -> None:
 def asid_of(draft: Draft, line: Line, word: str) -> str:
     """The ASID of a guest, from its line."""
     guest = draft.value(line, word)
-    for other in draft.entries:
-        words = other.line.words
-        if other.first == 'guest' and len(words) > 4 and number_of(words[1]) == guest:
-            return words[4]
-    line.fail(f"guest {guest} isn't declared")
+    declared = (other.line.words for other in draft.entries if other.first == 'guest')
+    found = next((words[4] for words in declared if len(words) > 4 and number_of(words[1]) == guest), None)
+    if found is None:
+        line.fail(f"guest {guest} isn't declared")
+    return found
 
 
 def note_word(draft: Draft, entry: Entry) -> None:
