@@ -1,5 +1,5 @@
 //! The program's commands, from its words to its exit status.
-ghost use Rattle.std.specs.Prelude.{◌≡◌, ℕ, ◌+◌, ◌≤◌, ◌<◌, ◌≢◌, ◌⊎◌, ◌↔◌, ◌^◌, true, false, List, Some, length, map, codes, string_bytes, IfSome};
+ghost use Rattle.std.specs.Prelude.{◌≡◌, ℕ, ◌+◌, ◌≤◌, ◌<◌, ◌≢◌, ◌⊎◌, ◌↔◌, ◌^◌, true, false, List, Some, length, map, codes, string_bytes, IfSome, Option};
 ghost use Rattle.snp_model.specs.declared.scenario.Scenario.{Scenario};
 ghost use Rattle.snp_model.specs.CommandLine.{are_words, drill_number, gen_number, is_measure, is_replay};
 ghost use Rattle.snp_model.specs.Ending.{report_of};
@@ -12,21 +12,22 @@ ghost use Rattle.snp_model.specs.Outside.{Adds, Rose};
 ghost use Rattle.snp_model.specs.Reading.{Passes, Reads, Refuses, order_of};
 ghost use Rattle.snp_model.specs.Report.{report_text};
 ghost use Rattle.snp_model.specs.Run.{IsDefined, IsOrdered};
-ghost use Rattle.snp_top.specs.Batch.{Explains, ForScenario, ReportsTo, SaysBadTurn, SaysCutReport, SaysLimit, SaysRefusal, SaysRun, WritesLine};
-ghost use Rattle.snp_top.specs.Drills.{CutsDrill, CutsScenario, WritesDrill, WritesScenario};
-ghost use Rattle.snp_top.specs.Faults.{error_line, exit_status};
+ghost use Rattle.snp_top.specs.Batch.{Concludes, ForScenario, ReportsTo, SaysBadTurn, SaysCutReport, SaysLimit, SaysRefusal, SaysRun, WritesLine};
+ghost use Rattle.snp_top.specs.Drills.{CutsDrill, CutsScenario, DrawsOut, SaysDrawn, WritesDrill, WritesScenario};
+ghost use Rattle.snp_top.specs.Exits.{ComesTo, Exits};
+ghost use Rattle.snp_top.specs.Faults.{exit_status};
 ghost use Rattle.snp_top.specs.Input.{TakesAtMost};
 ghost use Rattle.snp_top.specs.Measures.{SaysCutDigest, SaysPageRefusal, WritesDigest};
 ghost use Rattle.snp_top.specs.Replays.{IsRead};
 ghost use Rattle.snp_top.specs.Schedule.{IsFirstBad};
-ghost use Rattle.snp_top.specs.Words.{AsksFor, takes_text};
+ghost use Rattle.snp_top.specs.Words.{AsksFor, asks_text, command_of, takes_text, without_threads};
 
 use crate::drilling::{carry_out_drill, carry_out_gen};
 use crate::errors::put_error;
 use crate::fault::CommandFault;
 use crate::measuring::carry_out_measure;
 use crate::replay::{Played, replay};
-use crate::words::{Asked, read_words};
+use crate::words::{Asked, Drawn, read_words};
 use outside_port::{Sink, Source, write_all};
 use report_text::write_report;
 use snp_model::{Quantity, Reason};
@@ -44,6 +45,11 @@ pub fn snp_batch<S: Source, K: Sink>(
     source: &mut S,
     sink: &mut K,
 ) -> u8
+    // What a status tells, of every command but `run`: what was read, and what was written.
+    ensures exits { Exits (without_threads (command_of (map string_bytes words.now.items))) result
+        (record { left = S.left source.old; read_faults = S.faults source.old; written = K.written sink.old; write_faults = K.faults sink.old })
+        (record { left = S.left source.new; read_faults = S.faults source.new; written = K.written sink.new; write_faults = K.faults sink.new }) }
+
     // The headline of `replay`: the text was read to its end, and it says a scenario whose schedule makes a run.
     ensures source_read { result ≡ 0 → takes_text (map string_bytes words.now.items) ≡ true → IsRead (S.left source.old) (S.left source.new) }
     ensures scenario_read { result ≡ 0 → is_replay (map string_bytes words.now.items) ≡ true → SaysRun (S.left source.old) }
@@ -128,22 +134,30 @@ pub fn snp_batch<S: Source, K: Sink>(
         → (result ≡ 0) ⊎ (result ≡ 7) }
     ensures drawn_complete { (number : ℕ) → AsksFor number (map string_bytes words.now.items) → (Rose (K.faults sink.old) (K.faults sink.new) → ⊥) → (result ≡ 0) ⊎ (result ≡ 7) }
 {
-    match read_words(words) {
-        None => exit_status(Err(refuse(CommandFault::Words, sink))),
-        Some(Asked::Replay) => exit_status(carry_out_replay(alloc, source, sink)),
-        Some(Asked::Measure) => exit_status(carry_out_measure(alloc, source, sink)),
-        Some(Asked::Gen(number)) => exit_status(carry_out_gen(alloc, number, sink)),
-        Some(Asked::Drill(number)) => exit_status(carry_out_drill(alloc, number, sink)),
-    }
+    let asked = read_words(words);
+    let outcome = carry_out(alloc, asked, source, sink);
+    conclude(outcome, sink)
 }
 
-// The exit status of a command.
-pub(crate) fn exit_status(outcome: Result<(), CommandFault>) -> u8
-    ensures { result ≡ exit_status outcome }
+/// Carries out a command that needs no threads. Where it comes to nothing, and writing didn't fail, nothing is written.
+pub(crate) fn carry_out<S: Source, K: Sink>(
+    alloc: Global,
+    asked: Option<Asked>,
+    source: &mut S,
+    sink: &mut K,
+) -> Result<(), CommandFault>
+    ensures came { ComesTo (without_threads asked) result
+        (record { left = S.left source.old; read_faults = S.faults source.old; written = K.written sink.old; write_faults = K.faults sink.old })
+        (record { left = S.left source.new; read_faults = S.faults source.new; written = K.written sink.new; write_faults = K.faults sink.new }) }
+    ensures unread { asks_text (without_threads asked) ≡ false → source.new ≡ source.old }
+    ensures taken { TakesAtMost (most Quantity.Bytes + 1) (S.left source.old) (S.left source.new) }
+    ensures later { (S.faults source.old ≤ S.faults source.new) × (K.faults sink.old ≤ K.faults sink.new) }
 {
-    match outcome {
-        Ok(()) => 0,
-        Err(fault) => fault.status(),
+    match asked {
+        None | Some(Asked::Run) => Err(CommandFault::Words),
+        Some(Asked::Replay) => carry_out_replay(alloc, source, sink),
+        Some(Asked::Measure) => carry_out_measure(alloc, source, sink),
+        Some(Asked::Drawn { number, what }) => carry_out_drawn(alloc, number, what, sink),
     }
 }
 
@@ -153,7 +167,7 @@ fn carry_out_replay<S: Source, K: Sink>(
     source: &mut S,
     sink: &mut K,
 ) -> Result<(), CommandFault>
-    ensures explained { Explains result
+    ensures came { ComesTo (Some Asked.Replay) result
         (record { left = S.left source.old; read_faults = S.faults source.old; written = K.written sink.old; write_faults = K.faults sink.old })
         (record { left = S.left source.new; read_faults = S.faults source.new; written = K.written sink.new; write_faults = K.faults sink.new }) }
     ensures taken { TakesAtMost (most Quantity.Bytes + 1) (S.left source.old) (S.left source.new) }
@@ -161,7 +175,23 @@ fn carry_out_replay<S: Source, K: Sink>(
 {
     match replay(alloc, source) {
         Ok(played) => report(&played, sink),
-        Err(fault) => Err(refuse(fault, sink)),
+        Err(fault) => Err(fault),
+    }
+}
+
+// Writes what a number determines.
+fn carry_out_drawn<K: Sink>(
+    alloc: Global,
+    number: u64,
+    what: Drawn,
+    sink: &mut K,
+) -> Result<(), CommandFault>
+    ensures answer { DrawsOut (SaysDrawn what number) (K.written sink.old) (K.written sink.new) (K.faults sink.old) (K.faults sink.new) result }
+    ensures later { K.faults sink.old ≤ K.faults sink.new }
+{
+    match what {
+        Drawn::Gen => carry_out_gen(alloc, number, sink),
+        Drawn::Drill => carry_out_drill(alloc, number, sink),
     }
 }
 
@@ -178,14 +208,19 @@ fn report<K: Sink>(played: &Played, sink: &mut K) -> Result<(), CommandFault>
     }
 }
 
-// Writes the error line of a fault, or a front of it where the sink fails, and gives the fault back.
-pub(crate) fn refuse<K: Sink>(fault: CommandFault, sink: &mut K) -> CommandFault
-    ensures same { result ≡ fault }
+/// Ends a command: writes its error line, if it came to nothing, or a front of it where the sink fails, and gives the exit status.
+pub(crate) fn conclude<K: Sink>(outcome: Result<(), CommandFault>, sink: &mut K) -> u8
+    ensures status { result ≡ exit_status outcome }
+    ensures line { Concludes outcome (K.written sink.old) (K.written sink.new) (K.faults sink.old) (K.faults sink.new) }
     ensures later { K.faults sink.old ≤ K.faults sink.new }
-    ensures line { WritesLine (K.written sink.old) (K.written sink.new) (K.faults sink.old) (K.faults sink.new) (error_line fault) }
 {
-    let mut line = [0; 64];
-    let end = put_error(&mut line, fault);
-    let _ = write_all(sink, &line[..end]);
-    fault
+    match outcome {
+        Ok(()) => 0,
+        Err(fault) => {
+            let mut line = [0; 64];
+            let end = put_error(&mut line, fault);
+            let _ = write_all(sink, &line[..end]);
+            fault.status()
+        }
+    }
 }

@@ -11,31 +11,25 @@ ghost use Rattle.snp_model.specs.Reading.{Passes, Reads, Refuses, order_of};
 ghost use Rattle.snp_model.specs.Run.{IsDefined};
 ghost use Rattle.snp_top.specs.Batch.{SaysBadTurn, SaysLimit, SaysRefusal, WritesLine};
 ghost use Rattle.snp_top.specs.Drills.{CutsDrill, CutsScenario, WritesDrill, WritesScenario};
+ghost use Rattle.snp_top.specs.Exits.{ComesTo, Exits};
 ghost use Rattle.snp_top.specs.Input.{TakesAtMost};
 ghost use Rattle.snp_top.specs.Measures.{SaysCutDigest, SaysPageRefusal, WritesDigest};
 ghost use Rattle.snp_top.specs.Replays.{IsRead, ReadsText, SaysOne};
-ghost use Rattle.snp_top.specs.Runs.{ExplainsRun, IsReported, OnCut, ReportsKept, are_commands, is_run, reads_scenario, reads_text};
+ghost use Rattle.snp_top.specs.Runs.{IsReported, OnCut, ReportsKept, are_commands, is_run, reads_scenario, reads_text};
 ghost use Rattle.snp_top.specs.Schedule.{IsFirstBad};
-ghost use Rattle.snp_top.specs.Words.{AsksFor};
+ghost use Rattle.snp_top.specs.Words.{AsksFor, command_of};
 
-use crate::batch::{exit_status, refuse, snp_batch};
+use crate::batch::{carry_out, conclude};
 use crate::fault::CommandFault;
 use crate::fleet::Fleet;
 use crate::replay::read;
 use crate::run::run;
-use crate::words::is_alone;
+use crate::words::{Asked, is_run, read_words};
 use outside_port::{Gate, Sink, Source};
 use snp_model::{Quantity, Reason};
 use std::alloc::Global;
 use std::sync::Wait;
 use std::thread::Threads;
-
-// Whether the words are `run` alone.
-fn is_run(words: &Vec<String>) -> bool
-    ensures { result ≡ is_run (map string_bytes words.now.items) }
-{
-    is_alone(b"run", words)
-}
 
 /// Carries out the command that the words name, as `snp_batch` does, and `run` besides: it reads a scenario, passes over
 /// its order lines, builds by the fleet what one worker for each actor steps, each step after the gate let it through, and
@@ -50,6 +44,11 @@ pub fn snp_main<S: Source, K: Sink, G: Gate + Sync, F: Fleet, R: Threads + Wait 
     gate: &G,
     fleet: &mut F,
 ) -> u8
+    // What a status tells, of every command: what was read, and what was written.
+    ensures exits { Exits (command_of (map string_bytes words.now.items)) result
+        (record { left = S.left source.old; read_faults = S.faults source.old; written = K.written sink.old; write_faults = K.faults sink.old })
+        (record { left = S.left source.new; read_faults = S.faults source.new; written = K.written sink.new; write_faults = K.faults sink.new }) }
+
     // The headline of `replay` and `run`: the text was read to its end, and it says a scenario. The report of one run of it
     // is written, and nothing else. The schedule of that run is that of the order lines, or, under `run`, one that finishes every actor.
     ensures source_read { result ≡ 0 → reads_text (map string_bytes words.now.items) ≡ true → IsRead (S.left source.old) (S.left source.new) }
@@ -147,10 +146,13 @@ pub fn snp_main<S: Source, K: Sink, G: Gate + Sync, F: Fleet, R: Threads + Wait 
     // nor what a number determines.
     ensures drawn_complete { (number : ℕ) → AsksFor number (map string_bytes words.now.items) → (Rose (K.faults sink.old) (K.faults sink.new) → ⊥) → (result ≡ 0) ⊎ (result ≡ 7) }
 {
-    if is_run(words) {
-        exit_status(carry_out_run(rt, alloc, source, sink, gate, fleet))
+    let asked = read_words(words);
+    if is_run(asked) {
+        let outcome = carry_out_run(rt, alloc, source, sink, gate, fleet);
+        conclude(outcome, sink)
     } else {
-        snp_batch(alloc, words, source, sink)
+        let outcome = carry_out(alloc, asked, source, sink);
+        conclude(outcome, sink)
     }
 }
 
@@ -163,7 +165,7 @@ fn carry_out_run<S: Source, K: Sink, G: Gate + Sync, F: Fleet, R: Threads + Wait
     gate: &G,
     fleet: &mut F,
 ) -> Result<(), CommandFault>
-    ensures explained { ExplainsRun result
+    ensures came { ComesTo (Some Asked.Run) result
         (record { left = S.left source.old; read_faults = S.faults source.old; written = K.written sink.old; write_faults = K.faults sink.old })
         (record { left = S.left source.new; read_faults = S.faults source.new; written = K.written sink.new; write_faults = K.faults sink.new }) }
     ensures fleet_keeps { OnOk result (IfSome (S.left source.old)
@@ -175,6 +177,6 @@ fn carry_out_run<S: Source, K: Sink, G: Gate + Sync, F: Fleet, R: Threads + Wait
 {
     match read(alloc, source) {
         Ok(scenario) => run(rt, alloc, &scenario, sink, gate, fleet),
-        Err(fault) => Err(refuse(fault, sink)),
+        Err(fault) => Err(fault),
     }
 }
