@@ -24,7 +24,7 @@ use Rattle.snp_top.specs.declared.words.Asked.{Asked}
 use Rattle.snp_top.specs.declared.words.Asked.TheVariants as asks
 use Rattle.snp_top.specs.declared.words.Drawn.{Drawn}
 use Rattle.snp_top.specs.declared.words.Drawn.TheVariants as draws
-use Rattle.snp_top.specs.Batch.{Concludes, ForScenario, Outside, SaysBadTurn, SaysCutReport, SaysLimit, SaysRefusal, SaysRun, WritesLine, WritesNothing, Wrote}
+use Rattle.snp_top.specs.Batch.{Concludes, ForScenario, Outside, SaysBadTurn, SaysLimit, SaysRefusal, SaysRun, WritesLine, WritesNothing, Wrote}
 use Rattle.snp_top.specs.Drills.{SaysDrawn}
 use Rattle.snp_top.specs.Exits.{ComesTo, Exits, Fails, HasCause, Outputs, Stops}
 use Rattle.snp_top.specs.Faults.{error_line, exit_status, limit_line, refusal_line, schedule_line, status_of}

@@ -311,3 +311,43 @@ run_not (Some asks.Replay) is = refl
 run_not (Some asks.Run) is = absurd (false≢true (sym is))
 run_not (Some asks.Measure) is = refl
 run_not (Some (asks.Drawn number what)) is = refl
+
+-- what is asked for is what the words are
+pub asked_replay : (words : List (List ℕ)) → command_of words ≡ Some asks.Replay → is_replay words ≡ true
+asked_replay words is = subst (IsAsked words) is (asked_is words)
+
+pub asked_run : (words : List (List ℕ)) → command_of words ≡ Some asks.Run → is_run words ≡ true
+asked_run words is = subst (IsAsked words) is (asked_is words)
+
+pub asked_measure : (words : List (List ℕ)) → command_of words ≡ Some asks.Measure → is_measure words ≡ true
+asked_measure words is = subst (IsAsked words) is (asked_is words)
+
+pub asked_gen : (words : List (List ℕ)) (number : ℕ) → command_of words ≡ Some (asks.Drawn number draws.Gen) → gen_number words ≡ Some number
+asked_gen words number is = subst (IsAsked words) is (asked_is words)
+
+pub asked_drill : (words : List (List ℕ)) (number : ℕ) → command_of words ≡ Some (asks.Drawn number draws.Drill) → drill_number words ≡ Some number
+asked_drill words number is = subst (IsAsked words) is (asked_is words)
+
+pub no_threads_run : (words : List (List ℕ)) → is_run words ≡ true → without_threads (command_of words) ≡ None
+no_threads_run words is = batch_asked words (run_asked words is)
+
+pub threads_not : (words : List (List ℕ)) → is_run words ≡ false → without_threads (command_of words) ≡ command_of words
+threads_not words is = run_not (command_of words) (sym (run_is words) ∙ is)
+
+-- words that ask for no text are those of no command that reads one
+reads_none : (words : List (List ℕ)) → asks_text (command_of words) ≡ false → reads_text words ≡ false
+reads_none words none = or_false (reads_text words) (λ reads. false≢true (sym none ∙ reads_text_asked words reads))
+
+takes_none : (words : List (List ℕ)) → asks_text (without_threads (command_of words)) ≡ false → takes_text words ≡ false
+takes_none words none = or_false (takes_text words) (λ takes. false≢true (sym none ∙ takes_asked words takes))
+
+pub drawn_unread : (words : List (List ℕ)) (number : ℕ) → AsksFor number words → (reads_text words ≡ false) × (takes_text words ≡ false)
+drawn_unread words number asked =
+    let drawn = drawn_asked words number asked in
+    (reads_none words (ap asks_text drawn.1), takes_none words (ap (λ (o : Option Asked). asks_text (without_threads o)) drawn.1))
+
+pub none_unread : (words : List (List ℕ)) → are_commands words ≡ false → reads_text words ≡ false
+none_unread words none = reads_none words (ap asks_text (none_asks words none))
+
+pub batch_unread : (words : List (List ℕ)) → without_threads (command_of words) ≡ None → takes_text words ≡ false
+batch_unread words none = takes_none words (ap asks_text none)

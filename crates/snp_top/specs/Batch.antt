@@ -41,10 +41,6 @@ abbrev pub SaysBadTurn : Option (List ℕ) → Option (List ℕ) → Option (Lis
 SaysBadTurn left now old written before after =
     (entry : ℕ) × (actor : ℕ) × ReadsText left now (SaysOne (λ c. IsFirstBad (opening c) (order_of c) entry actor)) × WritesLine old written before after (schedule_line entry actor)
 
--- the text was read to its end and says a scenario whose schedule makes a run, and a front of its report was written
-abbrev pub SaysCutReport : Option (List ℕ) → Option (List ℕ) → Option (List ℕ) → Option (List ℕ) → Type 0
-SaysCutReport left now old written = ReadsText left now (SaysOne (λ c. IsDefined c (order_of c) × AddsPrefix old written (report_of c (order_of c))))
-
 -- a report is written, or a front of it where the sink's count rose
 abbrev pub ReportsTo : Option (List ℕ) → Option (List ℕ) → ℕ → ℕ → List ℕ → Result (Unit {0}) CommandFault → Type 0
 ReportsTo old now before after text (Ok done) = Adds old now text

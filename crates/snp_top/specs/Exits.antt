@@ -18,6 +18,7 @@ use Rattle.snp_top.specs.Input.{TakesAtMost}
 use Rattle.snp_top.specs.Measures.{HasMeasureCause, SaysDigest}
 use Rattle.snp_top.specs.Replays.{HasReplayCause, ReadsText, SaysOne}
 use Rattle.snp_top.specs.Runs.{IsNoTurn, IsReported}
+use Rattle.snp_top.specs.Words.{command_of}
 
 -- the text was read to its end, where the command reads one, and this is so of the output that the command makes of it: `replay`
 -- the report of the run that the order lines spell, `run` the report of one run in which every actor is finished, `measure` the
@@ -54,6 +55,10 @@ pub record Exits (asked : Option Asked) (status : ℕ) (before now : Outside) : 
   pub failed : status ≢ 0 → status ≢ 6 → Fails asked status before now
   pub taken : TakesAtMost (most Bytes + 1) before.left now.left
   pub later : (before.read_faults ≤ now.read_faults) × (before.write_faults ≤ now.write_faults)
+
+-- this is told of the words, the status, and the source and the sink before and after, by what a command exits with
+abbrev pub Tells : (List (List ℕ) → ℕ → Outside → Outside → Type 0) → Type 0
+Tells P = (words : List (List ℕ)) (status : ℕ) (before now : Outside) → Exits (command_of words) status before now → P words status before now
 
 -- why a command stops, before its error line: the sink failed under its output, or nothing is written yet
 abbrev pub Stops : Option Asked → CommandFault → Outside → Outside → Type 0

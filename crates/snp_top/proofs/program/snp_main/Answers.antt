@@ -6,10 +6,9 @@ use Rattle.snp_top.specs.Batch.{Outside}
 use Rattle.snp_top.specs.Exits.{Exits}
 use Rattle.snp_top.specs.Runs.{is_run}
 use Rattle.snp_top.specs.Words.{asks_run, asks_text, command_of, without_threads}
-use Rattle.snp_top.proofs.ExitLaws.{concluded, exit_nothing}
-use Rattle.snp_top.proofs.ProgramLaws as laws
+use Rattle.snp_top.proofs.ExitLaws.{concluded}
 use Rattle.snp_top.proofs.StatusLaws.{done_read, done_reported, exits_as, fleet_done, fleet_stopped}
-use Rattle.snp_top.proofs.WordLaws.{drawn_asked, reads_scenario_asked, reads_text_asked, run_alone, run_is, run_not}
+use Rattle.snp_top.proofs.WordLaws.{reads_not, reads_scenario_asked, reads_text_asked, run_alone, run_is, run_not}
 use Rattle.snp_top.proofs.program.snp_main.Goals as goal
 
 pub returns-then-is_run : goal.returns-then-is_run
@@ -30,43 +29,8 @@ returns-then-is_run g c =
       reported = λ zero reads. done_reported (is_run words) (run_is words) exits zero (reads_scenario_asked words reads);
       fleet_keeps = λ zero is. fleet_done c.carry_out_run-outcome.result c.conclude.result _ _ _ _ _ _ _ _ ended.status ended.line came.fleet_keeps zero;
       fleet_untouched = λ is. absurd (false≢true (sym is ∙ run_is words ∙ ap asks_run runs));
-      source_unread = λ number asks. let other = sym runs ∙ (drawn_asked words number asks).1 in absurd (cc);
-      source_untouched = λ two. let other = sym runs ∙ exit_nothing exits two in absurd (cc);
+      source_unread = λ none. absurd (false≢true (sym (reads_not words none) ∙ ap asks_text runs));
       fleet_cut = λ six is. fleet_stopped c.carry_out_run-outcome.result c.conclude.result _ _ _ _ _ _ _ _ ended.status ended.line came.fleet_cut six;
-      digest_written = laws.digest_written words exits;
-      scenario_drawn = laws.scenario_drawn words exits;
-      drill_written = laws.drill_written words exits;
-      drawn_statuses = laws.drawn_statuses words exits;
-      statuses = laws.statuses words exits;
-      words_refused = laws.words_refused words exits;
-      words_line = laws.words_line words exits;
-      read_failed = laws.read_failed words exits;
-      read_stopped = laws.read_stopped words exits;
-      read_line = laws.read_line words exits;
-      scenario_refused = laws.scenario_refused words exits;
-      scenario_refused_where = laws.scenario_refused_where words exits;
-      pages_refused = laws.pages_refused words exits;
-      pages_refused_where = laws.pages_refused_where words exits;
-      limit_passed = laws.limit_passed words exits;
-      limit_passed_where = laws.limit_passed_where words exits;
-      pages_too_long = laws.pages_too_long words exits;
-      pages_too_long_where = laws.pages_too_long_where words exits;
-      schedule_refused = laws.schedule_refused words exits;
-      run_has_no_schedule = laws.run_has_no_schedule words exits;
-      pages_have_no_schedule = laws.pages_have_no_schedule words exits;
-      schedule_refused_where = laws.schedule_refused_where words exits;
-      write_failed = laws.write_failed words exits;
-      report_cut = laws.report_cut words exits;
-      digest_cut = laws.digest_cut words exits;
-      scenario_cut = laws.scenario_cut words exits;
-      drill_cut = laws.drill_cut words exits;
-      memory_line = laws.memory_line words exits;
-      replay_complete = laws.replay_complete words exits;
-      run_complete = laws.run_complete words exits;
-      digest_complete = laws.digest_complete words exits;
-      drawn_complete = laws.drawn_complete words exits;
-      taken = exits.taken;
-      later = exits.later;
     }
 
 pub returns-else-is_run : goal.returns-else-is_run
@@ -87,41 +51,6 @@ returns-else-is_run g c =
       reported = λ zero reads. done_reported (is_run words) (run_is words) exits zero (reads_scenario_asked words reads);
       fleet_keeps = λ zero is. absurd (false≢true (sym not_run ∙ ap asks_run same ∙ sym (run_is words) ∙ is));
       fleet_untouched = λ is. refl;
-      source_unread = λ number asks. came.unread (ap (λ (o : Option Asked). asks_text (without_threads o)) (same ∙ (drawn_asked words number asks).1));
-      source_untouched = λ two. came.unread (ap (λ (o : Option Asked). asks_text (without_threads o)) (same ∙ exit_nothing exits two));
+      source_unread = λ none. came.unread (ap asks_text (run_not asked not_run ∙ same) ∙ reads_not words none);
       fleet_cut = λ six is. absurd (false≢true (sym not_run ∙ ap asks_run same ∙ sym (run_is words) ∙ is));
-      digest_written = laws.digest_written words exits;
-      scenario_drawn = laws.scenario_drawn words exits;
-      drill_written = laws.drill_written words exits;
-      drawn_statuses = laws.drawn_statuses words exits;
-      statuses = laws.statuses words exits;
-      words_refused = laws.words_refused words exits;
-      words_line = laws.words_line words exits;
-      read_failed = laws.read_failed words exits;
-      read_stopped = laws.read_stopped words exits;
-      read_line = laws.read_line words exits;
-      scenario_refused = laws.scenario_refused words exits;
-      scenario_refused_where = laws.scenario_refused_where words exits;
-      pages_refused = laws.pages_refused words exits;
-      pages_refused_where = laws.pages_refused_where words exits;
-      limit_passed = laws.limit_passed words exits;
-      limit_passed_where = laws.limit_passed_where words exits;
-      pages_too_long = laws.pages_too_long words exits;
-      pages_too_long_where = laws.pages_too_long_where words exits;
-      schedule_refused = laws.schedule_refused words exits;
-      run_has_no_schedule = laws.run_has_no_schedule words exits;
-      pages_have_no_schedule = laws.pages_have_no_schedule words exits;
-      schedule_refused_where = laws.schedule_refused_where words exits;
-      write_failed = laws.write_failed words exits;
-      report_cut = laws.report_cut words exits;
-      digest_cut = laws.digest_cut words exits;
-      scenario_cut = laws.scenario_cut words exits;
-      drill_cut = laws.drill_cut words exits;
-      memory_line = laws.memory_line words exits;
-      replay_complete = laws.replay_complete words exits;
-      run_complete = laws.run_complete words exits;
-      digest_complete = laws.digest_complete words exits;
-      drawn_complete = laws.drawn_complete words exits;
-      taken = exits.taken;
-      later = exits.later;
     }
