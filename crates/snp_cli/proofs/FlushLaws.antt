@@ -1,13 +1,11 @@
 -- What a flush leaves of what was told before it: all, since it adds nothing to what a writer has taken.
-use Rattle.std.proofs.Common.{◌≡◌, ◌≢◌, eqb, ℕ, ◌≤◌, ◌⊎◌, Bool, true, false, List, [], Option, sym, subst, arith, inl, inr}
+use Rattle.std.proofs.Common.{◌≡◌, ◌≢◌, eqb, ℕ, ◌≤◌, ◌⊎◌, true, false, List, [], Option, sym, subst, arith, inl, inr}
 use Rattle.std.proofs.lemmas.Bool.Decides.{eqb_tells}
-use Rattle.snp_model.specs.declared.scenario.Scenario.{Scenario}
 use Rattle.snp_model.specs.Outside.{Adds, AddsPrefix, Rose}
 use Rattle.snp_top.specs.declared.words.Asked.{Asked}
 use Rattle.snp_top.specs.Batch.{Outside}
 use Rattle.snp_top.specs.Exits.{Exits}
-use Rattle.snp_top.specs.Fleets.{Kept}
-use Rattle.snp_top.proofs.KeptLaws.{Fleets, adds_kept, cut_fleet_kept, fleet_cut, fleet_kept, line_kept, outputs_as, prefix_kept, rose_behind, rose_kept, whole_cut}
+use Rattle.snp_top.proofs.KeptLaws.{adds_kept, line_kept, outputs_as, prefix_kept, rose_behind, rose_kept, whole_cut}
 
 -- the status of a command whose output couldn't be handed on is 6 for 0, and else its own
 pub record IsUnflushed (status result : ℕ) : Type 0 where

@@ -1,33 +1,26 @@
 -- What is said of a text, of a scenario that was replayed, and of an outcome.
-use Rattle.std.proofs.Common.{◌≡◌, ℕ, ◌≤◌, ◌⊎◌, ◌≢◌, zero, suc, List, [], ◌∷◌, take, Option, None, Some, IfSome, OnOk, Result, Ok, Err, sym, subst, arith, inl, inr}
-use Rattle.std.specs.Prelude.{codes, slice_get}
+use Rattle.std.proofs.Common.{◌≡◌, ℕ, ◌≤◌, zero, suc, List, [], ◌∷◌, take, Option, None, Some, IfSome, Result, Ok, Err, subst, arith}
+use Rattle.std.specs.Prelude.{slice_get}
 use Rattle.snp_model.specs.declared.reading.Quantity.{Quantity}
-use Rattle.snp_model.specs.declared.reading.Quantity.TheVariants.{Bytes}
 use Rattle.snp_model.specs.declared.reading.Reason.{Reason}
 use Rattle.snp_model.specs.declared.scenario.Scenario.{Scenario}
 use Rattle.snp_model.specs.Ending.{report_of}
 use Rattle.scenario_text.specs.Findings.{says, wrong, too_much}
-use Rattle.snp_model.specs.Premises.{AreLegal}
-use Rattle.snp_model.specs.Limits.{most}
 use Rattle.snp_model.specs.Opening.{opening}
-use Rattle.snp_model.specs.Outside.{Adds, AddsPrefix, Rose}
+use Rattle.snp_model.specs.Outside.{Adds, AddsPrefix}
 use Rattle.snp_model.specs.Reading.{Passes, Reads, Refuses, Valid, order_of}
 use Rattle.snp_model.specs.Report.{report_text}
-use Rattle.snp_model.specs.Run.{IsDefined, IsDefinedFrom, IsOrdered, state_from}
+use Rattle.snp_model.specs.Run.{IsDefined, IsDefinedFrom, state_from}
 use Rattle.snp_model.specs.State.{State, IsUnfinished}
 use Rattle.snp_model.specs.Step.{after}
 use Rattle.scenario_text.proofs.FindingLaws.{one_finding}
-use Rattle.snp_model.proofs.SoundLaws.{valid_is_sound}
-use Rattle.run_laws.proofs.GuestMemoryLaws.{guests_are_legal}
-use Rattle.run_laws.proofs.OrderedLaws.{run_is_ordered}
 use Rattle.snp_top.specs.declared.fault.CommandFault.{CommandFault}
 use Rattle.snp_top.specs.declared.fault.CommandFault.TheVariants as faults
 use Rattle.snp_top.specs.declared.replay.Played.{Played}
 use Rattle.snp_top.specs.declared.words.Asked.TheVariants as asks
 use Rattle.snp_top.specs.Batch.{ForScenario, Outside, ReportsTo, SaysRun}
 use Rattle.snp_top.specs.Exits.{ComesTo}
-use Rattle.snp_top.specs.Faults.{exit_status, status_of}
-use Rattle.snp_top.specs.Input.{TakesAtMost}
+use Rattle.snp_top.specs.Faults.{status_of}
 use Rattle.snp_top.specs.Replays.{IsPlayed, IsRead, ReadsText, SaysOne}
 use Rattle.snp_top.specs.Schedule.{IsFirstBad}
 

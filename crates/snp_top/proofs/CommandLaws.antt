@@ -1,5 +1,5 @@
 -- What each command comes to, before its error line.
-use Rattle.std.proofs.Common.{◌≡◌, ℕ, List, [], Option, None, Some, true, Result, Ok, Err, refl, arith}
+use Rattle.std.proofs.Common.{ℕ, List, [], Option, None, Some, true, Result, Ok, Err, refl, arith}
 use Rattle.snp_model.specs.declared.scenario.Scenario.{Scenario}
 use Rattle.snp_model.specs.Outside.{Adds, AddsPrefix, Takes}
 use Rattle.snp_model.specs.Reading.{Reads}

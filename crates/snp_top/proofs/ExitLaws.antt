@@ -1,44 +1,28 @@
 -- What an exit status tells, clause by clause.
-use Rattle.std.proofs.Common.{◌≡◌, ◌≢◌, eqb, ℕ, ◌+◌, ◌≤◌, ◌<◌, ◌⊎◌, Bool, true, false, List, length, Option, None, Some, IfSome, Result, Ok, Err, refl, sym, ap, ◌∙◌, subst, arith, inl, inr}
+use Rattle.std.proofs.Common.{◌≡◌, ◌≢◌, eqb, ℕ, ◌+◌, ◌≤◌, ◌<◌, ◌⊎◌, true, false, List, length, Option, None, Some, IfSome, Result, Ok, Err, refl, sym, ap, ◌∙◌, subst, arith, inl, inr}
 use Rattle.std.proofs.lemmas.Bool.Decides.{eqb_tells}
 use Rattle.std.specs.Prelude.{codes}
 use Rattle.snp_model.specs.declared.reading.Quantity.{Quantity}
 use Rattle.snp_model.specs.declared.reading.Quantity.TheVariants.{Bytes}
 use Rattle.snp_model.specs.declared.reading.Reason.{Reason}
-use Rattle.snp_model.specs.declared.scenario.Scenario.{Scenario}
-use Rattle.snp_model.specs.Ending.{report_of}
 use Rattle.snp_model.specs.Limits.{most}
-use Rattle.snp_model.specs.MeasureText.{RefusesPages, SaysPages}
-use Rattle.snp_model.specs.Measurement.{LaunchedPage}
-use Rattle.snp_model.specs.Opening.{opening}
 use Rattle.snp_model.specs.Outside.{Adds, AddsPrefix, Rose}
-use Rattle.snp_model.specs.Premises.{AreLegal}
-use Rattle.snp_model.specs.Reading.{Passes, Reads, Refuses, Valid, order_of}
-use Rattle.snp_model.specs.Run.{IsDefined, IsOrdered}
-use Rattle.snp_model.proofs.SoundLaws.{valid_is_sound}
-use Rattle.run_laws.proofs.GuestMemoryLaws.{guests_are_legal}
-use Rattle.run_laws.proofs.OrderedLaws.{run_is_ordered}
+use Rattle.snp_model.specs.Reading.{Refuses}
 use Rattle.snp_top.specs.declared.fault.CommandFault.{CommandFault}
 use Rattle.snp_top.specs.declared.fault.CommandFault.TheVariants as faults
 use Rattle.snp_top.specs.declared.words.Asked.{Asked}
 use Rattle.snp_top.specs.declared.words.Asked.TheVariants as asks
-use Rattle.snp_top.specs.declared.words.Drawn.{Drawn}
-use Rattle.snp_top.specs.declared.words.Drawn.TheVariants as draws
-use Rattle.snp_top.specs.Batch.{Concludes, ForScenario, Outside, SaysBadTurn, SaysLimit, SaysRefusal, SaysRun, WritesLine, WritesNothing, Wrote}
-use Rattle.snp_top.specs.Drills.{SaysDrawn}
+use Rattle.snp_top.specs.Batch.{Concludes, Outside, SaysBadTurn, SaysLimit, SaysRefusal, WritesLine, WritesNothing, Wrote}
 use Rattle.snp_top.specs.Exits.{ComesTo, Exits, Fails, HasCause, Outputs, Stops}
-use Rattle.snp_top.specs.Faults.{error_line, exit_status, limit_line, refusal_line, schedule_line, status_of}
+use Rattle.snp_top.specs.Faults.{error_line, exit_status, limit_line, refusal_line, status_of}
 use Rattle.snp_top.specs.Input.{TakesAtMost}
-use Rattle.snp_top.specs.Measures.{SaysCutDigest, SaysPageRefusal, WritesDigest}
-use Rattle.snp_top.specs.Replays.{IsRead, ReadsText, SaysOne}
-use Rattle.snp_top.specs.Runs.{IsReported}
-use Rattle.snp_top.specs.Schedule.{IsFirstBad}
-use Rattle.snp_top.specs.Words.{asks_run, asks_scenario, asks_text}
-use Rattle.snp_top.proofs.BatchLaws.{bad_or_run, for_scenario, if_some, run_said, said_or_too_much, said_or_wrong, said_valid, status_between, text_read, wrong_or_too_much}
+use Rattle.snp_top.specs.Measures.{SaysPageRefusal}
+use Rattle.snp_top.specs.Replays.{ReadsText}
+use Rattle.snp_top.specs.Words.{asks_scenario}
+use Rattle.snp_top.proofs.BatchLaws.{status_between}
 use Rattle.snp_top.proofs.CauseLaws.{passes_long}
-use Rattle.snp_top.proofs.KeptLaws.{line_kept, line_nothing, outputs_as, prefix_kept, rose_behind, rose_kept, whole_cut, adds_kept}
-use Rattle.snp_top.proofs.MeasureLaws.{long_read, says_or_refuses}
-use Rattle.snp_top.proofs.WholeLaws.{run_spelled}
+use Rattle.snp_top.proofs.KeptLaws.{line_nothing, outputs_as, prefix_kept, rose_kept}
+use Rattle.snp_top.proofs.MeasureLaws.{long_read}
 
 -- a failed write is no other fault
 no_write_cause : (asked : Option Asked) (left now : Option (List ℕ)) (before after : ℕ) → HasCause asked left now before after faults.Write → ⊥

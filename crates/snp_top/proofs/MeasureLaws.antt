@@ -1,22 +1,20 @@
 -- What is said of a measure text and of its digest.
-use Rattle.std.proofs.Common.{◌≡◌, ℕ, ◌<◌, ◌≤◌, ◌⊎◌, ◌≢◌, List, length, Option, None, Some, IfSome, OnOk, Result, Ok, Err, sym, ◌∙◌, subst, arith, inl, inr}
-use Rattle.std.specs.Prelude.{codes}
+use Rattle.std.proofs.Common.{◌≡◌, ℕ, ◌<◌, List, length, Option, None, Some, IfSome, sym, ◌∙◌, subst}
 use Rattle.snp_model.specs.declared.reading.Quantity.{Quantity}
 use Rattle.snp_model.specs.declared.reading.Quantity.TheVariants.{Bytes}
 use Rattle.snp_model.specs.declared.reading.Reason.{Reason}
 use Rattle.snp_model.specs.Limits.{most}
 use Rattle.snp_model.specs.MeasureText.{RefusesPages, SaysPages, digest_line}
 use Rattle.snp_model.specs.Measurement.{LaunchedPage, measure}
-use Rattle.snp_model.specs.Outside.{Adds, AddsPrefix, Rose, TakesAll}
+use Rattle.snp_model.specs.Outside.{Adds, AddsPrefix, TakesAll}
 use Rattle.snp_model.specs.Reading.{IsTooLong}
 use Rattle.snp_top.specs.declared.fault.CommandFault.{CommandFault}
 use Rattle.snp_top.specs.declared.fault.CommandFault.TheVariants as faults
-use Rattle.snp_top.specs.Batch.{Outside, SaysLimit, Wrote}
-use Rattle.snp_top.specs.Faults.{error_line, exit_status}
-use Rattle.snp_top.specs.Input.{HasInputCause, TakesAtMost}
-use Rattle.snp_top.specs.Measures.{HasMeasureCause, SaysCutDigest, SaysDigest, SaysPageRefusal, WritesDigest}
-use Rattle.snp_top.specs.Replays.{IsRead, ReadsSome, ReadsText}
-use Rattle.snp_top.proofs.CauseLaws.{passes_long, too_long}
+use Rattle.snp_top.specs.Batch.{Outside}
+use Rattle.snp_top.specs.Input.{HasInputCause}
+use Rattle.snp_top.specs.Measures.{HasMeasureCause, SaysCutDigest, SaysDigest, WritesDigest}
+use Rattle.snp_top.specs.Replays.{ReadsSome, ReadsText}
+use Rattle.snp_top.proofs.CauseLaws.{too_long}
 
 -- what holds of a digest that was read holds of the text
 digest_said : (left now : Option (List ℕ)) (digest : List ℕ) (P : List ℕ → Type 0) → ReadsText left now (SaysDigest (λ said. digest ≡ said)) → P digest → ReadsText left now (SaysDigest P)

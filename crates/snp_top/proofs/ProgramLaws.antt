@@ -1,5 +1,5 @@
 -- What is told of the words, the exit status, the source and the sink of a command by what it exits with: one law a clause.
-use Rattle.std.proofs.Common.{◌≡◌, ◌≢◌, ℕ, ◌≤◌, ◌<◌, ◌⊎◌, true, false, List, length, Option, Some, IfSome, ap, ◌∙◌}
+use Rattle.std.proofs.Common.{◌≡◌, ◌≢◌, ℕ, ◌≤◌, ◌<◌, ◌⊎◌, true, false, List, length, Some, IfSome, ap, ◌∙◌}
 use Rattle.std.specs.Prelude.{◌↔◌, codes}
 use Rattle.snp_model.specs.declared.reading.Quantity.{Quantity}
 use Rattle.snp_model.specs.declared.reading.Quantity.TheVariants.{Bytes}

@@ -2,15 +2,15 @@
 use Rattle.std.proofs.Common.{◌≡◌, ℕ, ◌⊎◌, ◌||◌, ◌&&◌, ◌==◌, Bool, true, false, List, [], length, Option, None, Some, is_some, if◌then◌else◌, refl, sym, ap, ◌∙◌, subst, arith, inl, inr}
 use Rattle.std.proofs.lemmas.Bool.{and_parts, eqb-true, false≢true, or_left, or_right}
 use Rattle.std.proofs.lemmas.Slice.Eq.{bytes_eq-Decides}
-use Rattle.std.specs.Prelude.{bytes_eq, codes, option_map, slice_index, slice_index_or}
-use Rattle.snp_model.specs.CommandLine.{are_words, drill_number, gen_number, is_alone, is_measure, is_replay, number_behind}
+use Rattle.std.specs.Prelude.{bytes_eq, codes, option_map, slice_index_or}
+use Rattle.snp_model.specs.CommandLine.{are_words, drill_number, gen_number, is_measure, is_replay, number_behind}
 use Rattle.snp_model.specs.Lines.{decimal_of}
 use Rattle.snp_top.specs.Runs.{are_commands, is_run, reads_scenario, reads_text}
 use Rattle.snp_top.specs.declared.words.Asked.{Asked}
 use Rattle.snp_top.specs.declared.words.Asked.TheVariants as asks
 use Rattle.snp_top.specs.declared.words.Drawn.{Drawn}
 use Rattle.snp_top.specs.declared.words.Drawn.TheVariants as draws
-use Rattle.snp_top.specs.Words.{AsksFor, asks_run, asks_scenario, asks_text, command_of, first_of, fits, forms, numbered, takes_text, without_threads}
+use Rattle.snp_top.specs.Words.{AsksFor, asks_run, asks_scenario, asks_text, command_of, first_of, fits, forms, takes_text, without_threads}
 
 -- two names that differ aren't both the word
 apart : (w name other : List ℕ) → bytes_eq name other ≡ false → bytes_eq w name ≡ true → bytes_eq w other ≡ true → ⊥
@@ -251,51 +251,11 @@ none_asks words none = go (command_of words) (asked_is words)
     go (Some (asks.Drawn number draws.Gen)) asked = absurd (or_none none (or_run words (some_gen words number asked)))
     go (Some (asks.Drawn number draws.Drill)) asked = absurd (or_none none (or_run words (some_drill words number asked)))
 
-right_false : (a b : Bool) → (a || b) ≡ false → b ≡ false
-right_false a true none = absurd (or_none none (or_right a true refl))
-right_false a false none = refl
-
-no_number : (name : List ℕ) (words : List (List ℕ)) → is_run words ≡ true → number_behind name words ≡ None
-no_number name words run = not_behind name words (or_false (fits name 2 words) (λ is. counts_apart (codes "run") name words run is))
-
-none_but_run : (words : List (List ℕ)) → is_run words ≡ true → are_words words ≡ false
-none_but_run words run =
-    let replay = or_false (is_replay words) (λ is. forms_apart (codes "run") (codes "replay") 1 1 words refl run is) in
-    let measure = or_false (is_measure words) (λ is. forms_apart (codes "run") (codes "measure") 1 1 words refl run is) in
-    let gen = no_number (codes "gen") words run in
-    let drill = no_number (codes "drill") words run in
-    λ i. ((replay i || measure i) || is_some (gen i)) || is_some (drill i)
-
--- words of no command without threads
-pub batch_none_is : (words : List (List ℕ)) → without_threads (command_of words) ≡ None → are_words words ≡ false
-batch_none_is words is = go (command_of words) (asked_is words) is
-  where
-    go : (o : Option Asked) → IsAsked words o → without_threads o ≡ None → are_words words ≡ false
-    go None asked is = right_false (is_run words) (are_words words) asked
-    go (Some asks.Replay) asked is = absurd (cc)
-    go (Some asks.Run) asked is = none_but_run words asked
-    go (Some asks.Measure) asked is = absurd (cc)
-    go (Some (asks.Drawn number what)) asked is = absurd (cc)
-
-pub batch_none_asks : (words : List (List ℕ)) → are_words words ≡ false → without_threads (command_of words) ≡ None
-batch_none_asks words none = go (command_of words) (asked_is words)
-  where
-    go : (o : Option Asked) → IsAsked words o → without_threads o ≡ None
-    go None asked = refl
-    go (Some asks.Replay) asked = absurd (or_none none (some_replay words asked))
-    go (Some asks.Run) asked = refl
-    go (Some asks.Measure) asked = absurd (or_none none (some_measure words asked))
-    go (Some (asks.Drawn number draws.Gen)) asked = absurd (or_none none (some_gen words number asked))
-    go (Some (asks.Drawn number draws.Drill)) asked = absurd (or_none none (some_drill words number asked))
-
 -- no words are both `replay` and `measure`
 pub not_measure : (words : List (List ℕ)) → command_of words ≡ Some asks.Replay → is_measure words ≡ false
 not_measure words is =
     let replays : is_replay words ≡ true = subst (IsAsked words) is (asked_is words) in
     or_false (is_measure words) (λ measures. forms_apart (codes "replay") (codes "measure") 1 1 words refl replays measures)
-
-pub batch_not_measure : (words : List (List ℕ)) → without_threads (command_of words) ≡ Some asks.Replay → is_measure words ≡ false
-batch_not_measure words is = or_false (is_measure words) (λ measures. let other = sym (batch_asked words (measure_asked words measures)) ∙ is in absurd (cc))
 
 -- `run`, and what isn't
 pub run_alone : (asked : Option Asked) → asks_run asked ≡ true → asked ≡ Some asks.Run

@@ -39,21 +39,27 @@ HasCause (Some asks.Run) left now before after fault = IsNoTurn fault × HasRepl
 HasCause (Some asks.Measure) left now before after fault = HasMeasureCause left now before after fault
 HasCause (Some (asks.Drawn number what)) left now before after fault = fault ≡ faults.Memory
 
--- a command came to nothing: a fault has this status and its cause, and its error line is written, or a front of it where the sink failed
+-- a command came to nothing
 pub record Fails (asked : Option Asked) (status : ℕ) (before now : Outside) : Type 0 where
   pub fault : CommandFault
+  -- the exit status is that of the fault
   pub status_is : status ≡ status_of fault
+  -- the fault comes by its cause
   pub cause : HasCause asked before.left now.left before.read_faults now.read_faults fault
+  -- its error line was written, or a front of it where writing failed
   pub line : Wrote before now (error_line fault)
 
--- a command exits with a status. 0: its output is written, all of it and nothing else. 6: writing failed, and a front of the output is
--- written. Any other: a fault has this status, and its error line is written. In each case a front of the text was taken, at most one
--- byte more than a text may have, and the counts of faults didn't fall
+-- a command exits with a status: what it has read and written, of the source and the sink before and after
 pub record Exits (asked : Option Asked) (status : ℕ) (before now : Outside) : Type 0 where
+  -- 0: all of its output was written, and nothing else
   pub done : status ≡ 0 → Outputs asked before.left now.left (Adds before.written now.written)
+  -- 6: writing failed, and a front of its output was written
   pub cut : status ≡ 6 → Outputs asked before.left now.left (AddsPrefix before.written now.written) × Rose before.write_faults now.write_faults
+  -- any other: a fault has this status and its cause, and its error line was written, or a front of it where writing failed
   pub failed : status ≢ 0 → status ≢ 6 → Fails asked status before now
+  -- a front of the text was taken, at most one byte more than a text may have
   pub taken : TakesAtMost (most Bytes + 1) before.left now.left
+  -- the counts of faults didn't fall
   pub later : (before.read_faults ≤ now.read_faults) × (before.write_faults ≤ now.write_faults)
 
 -- this is told of the words, the status, and the source and the sink before and after, by what a command exits with

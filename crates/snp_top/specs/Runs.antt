@@ -1,5 +1,5 @@
 -- What the program reports of a run, whether the scenario's order lines say its schedule or its threads make it as they go. This project's own.
-use Rattle.std.specs.Prelude.{◌≡◌, ℕ, Bool, true, false, ◌||◌, List, codes, Option, None, Some, Result, Ok, Err}
+use Rattle.std.specs.Prelude.{◌≡◌, ℕ, Bool, true, false, ◌||◌, List, codes, Option, Some, Result, Ok, Err}
 use Rattle.snp_model.specs.declared.scenario.Scenario.{Scenario}
 use Rattle.snp_model.specs.CommandLine.{are_words, is_alone, is_replay}
 use Rattle.snp_model.specs.Ending.{report_of}

@@ -1,6 +1,4 @@
-use Rattle.std.proofs.Common.{◌≡◌, ℕ, List, map, string_bytes, inl, inr}
-use Rattle.snp_top.specs.Batch.{Outside}
-use Rattle.snp_top.specs.Exits.{Exits}
+use Rattle.std.proofs.Common.{ℕ, List, map, string_bytes, inl, inr}
 use Rattle.snp_top.specs.Runs.{is_run}
 use Rattle.snp_top.specs.Words.{command_of}
 use Rattle.snp_top.proofs.KeptLaws.{cut_fleet_kept, fleet_cut, fleet_kept}

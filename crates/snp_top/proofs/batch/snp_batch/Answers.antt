@@ -1,4 +1,4 @@
-use Rattle.std.proofs.Common.{ℕ, List, map, string_bytes, ◌≡◌, true, Option, Some, refl, ap, ◌∙◌, subst}
+use Rattle.std.proofs.Common.{ℕ, List, map, string_bytes, ◌≡◌, true, Option, Some, ap, ◌∙◌, subst}
 use Rattle.snp_model.specs.CommandLine.{is_replay}
 use Rattle.snp_top.specs.declared.words.Asked.{Asked}
 use Rattle.snp_top.specs.declared.words.Asked.TheVariants as asks

@@ -1,4 +1,4 @@
-use Rattle.std.proofs.Common.{ℕ, List, map, string_bytes, ◌≡◌, true, false, Option, None, Some, refl, sym, ap, ◌∙◌, subst}
+use Rattle.std.proofs.Common.{ℕ, List, map, string_bytes, ◌≡◌, true, false, Option, Some, refl, sym, ap, ◌∙◌}
 use Rattle.std.proofs.lemmas.Bool.{false≢true}
 use Rattle.snp_top.specs.declared.words.Asked.{Asked}
 use Rattle.snp_top.specs.declared.words.Asked.TheVariants as asks
