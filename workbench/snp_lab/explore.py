@@ -2,11 +2,13 @@
 from __future__ import annotations
 
 import math
+import operator
 import os
 import random
 import signal
 import sys
 import time
+from collections import Counter
 from collections.abc import Callable
 from concurrent.futures import FIRST_COMPLETED, Future, ProcessPoolExecutor, wait
 from dataclasses import dataclass, field
@@ -16,7 +18,7 @@ from .before import read_before
 from .codes import outcome_words
 from .patterns import names_a_number, pattern_of
 from .program import Program
-from .runs import Branch, Played, Search
+from .runs import Branch, Played, Search, Told
 from .scenario import order_lines, parse, runs_of, without_order
 from .texts import Complaint
 
@@ -25,8 +27,6 @@ BATCH = 8
 PASSED_OVER = 'passed over'
 Rank = tuple[int, bytes]
 Key = tuple[int, int]
-# A run as a process tells it: the schedule and its report.
-Told = tuple[bytes, str]
 
 
 @dataclass
@@ -44,25 +44,35 @@ class Options:
 
 def rank(schedule: bytes) -> Rank:
     """The schedules that change the actor least come first."""
-    return sum(1 for left, right in zip(schedule, schedule[1:]) if left != right), schedule
+    return sum(map(operator.ne, schedule, schedule[1:])), schedule
 
 
 @dataclass
 class Found:
     """What runs have shown so far: for each item its outcomes, for the whole run its outcomes, and which patterns whole reports have
     (a bit for each), all with the best schedule."""
+    keeps_wholes: bool = False
     runs: int = 0
-    items: dict[Key, dict[str, tuple[int, Rank]]] = field(default_factory=dict)
+    counts: Counter[tuple[Key, str]] = field(default_factory=Counter)
+    best: dict[tuple[Key, str], Rank] = field(default_factory=dict)
     wholes: dict[tuple[tuple[Key, str], ...], tuple[int, Rank]] = field(default_factory=dict)
     likes: dict[int, tuple[int, Rank]] = field(default_factory=dict)
 
     def add(self, outcomes: dict[Key, str], likes: int, schedule: bytes) -> None:
         place = rank(schedule)
         self.runs += 1
-        for key, outcome in outcomes.items():
-            put(self.items.setdefault(key, {}), outcome, place)
-        put(self.wholes, tuple(sorted(outcomes.items())), place)
+        self.counts.update(outcomes.items())
+        for one in outcomes.items():
+            known = self.best.get(one)
+            if known is None or place < known:
+                self.best[one] = place
+        if self.keeps_wholes:
+            put(self.wholes, tuple(outcomes.items()), place)
         put(self.likes, likes, place)
+
+    def of_item(self, key: Key) -> dict[str, tuple[int, Rank]]:
+        """The outcomes of an item, each with how many runs have it and the best schedule."""
+        return {outcome: (self.counts[other, outcome], place) for (other, outcome), place in self.best.items() if other == key}
 
     def with_like(self, bits: int, wanted: int) -> Rank | None:
         """The best schedule whose report has just these of some patterns."""
@@ -78,12 +88,13 @@ def outcomes_of(search: Search, played: Played) -> dict[Key, str]:
     """The outcome of each item of a run; of one that was attempted again all of them, equal ones in a row told once."""
     outcomes: dict[Key, str] = {(actor.number, k): PASSED_OVER for actor in search.scenario.actors.values()
                                 for k in range(len(actor.items))}
-    for event in played.events:
-        key = event.actor, event.item
-        if event.outcome and event.attempt == 0:
-            outcomes[key] = event.answer
-        elif event.outcome and outcomes[key].split(', then ')[-1] != event.answer:
-            outcomes[key] += ', then ' + event.answer
+    for step in played.steps:
+        if not step.answer:
+            continue
+        if step.event.attempt == 0:
+            outcomes[step.key] = step.answer
+        elif outcomes[step.key].split(', then ')[-1] != step.answer:
+            outcomes[step.key] += ', then ' + step.answer
     return outcomes
 
 
@@ -94,6 +105,8 @@ def by_number(text: str) -> bool:
 
 def likes_of(search: Search, played: Played, numbered: bool) -> int:
     """Which patterns the lines of a report are like, a bit for each."""
+    if not search.patterns:
+        return 0
     likes = 0
     for step in played.steps:
         likes |= step.likes
@@ -115,13 +128,11 @@ def start_worker(search: Search) -> None:
 def work(branches: list[tuple[bytes, int | None]]) -> list[Told]:
     """Runs branches to their ends."""
     search = SHARED['search']
-    played = [search.run(Branch(before, actor)) for before, actor in branches]
-    return [(one.schedule, '\n'.join(one.lines) + '\n') for one in played]
+    return [search.run(Branch(before, actor)) for before, actor in branches]
 
 
 def work_random(seeds: list[str], before: bytes) -> list[Told]:
-    played = [SHARED['search'].shuffled(before, random.Random(seed)) for seed in seeds]
-    return [(one.schedule, '\n'.join(one.lines) + '\n') for one in played]
+    return [SHARED['search'].shuffled(before, random.Random(seed)) for seed in seeds]
 
 
 class Progress:
@@ -137,7 +148,7 @@ class Progress:
         if now - self.last < (0.5 if self.is_terminal else 5):
             return
         self.last, self.shown = now, True
-        text = (f'snp-lab: {found.runs} runs in {now - self.start:.0f} s, {sum(len(table) for table in found.items.values())} '
+        text = (f'snp-lab: {found.runs} runs in {now - self.start:.0f} s, {len(found.best)} '
                 f'outcomes of items, {left} branches waiting')
         print('\r\033[K' + text if self.is_terminal else text, end='' if self.is_terminal else '\n', file=sys.stderr, flush=True)
 
@@ -167,7 +178,7 @@ class Explorer:
         if len(spelled) < options.after:
             raise Complaint(f'the order has {len(spelled)} events, and --after asks for {options.after}', name)
         self.before = spelled[:options.after]
-        self.found = Found()
+        self.found = Found(options.joint)
         self.branches: list[Branch] = []
         self.stopped = ''
         self.randomly = 0
@@ -204,7 +215,7 @@ class Explorer:
 
     def first_run(self) -> None:
         """The first run, which says how many events each actor has about."""
-        played = self.search.run(Branch(self.before))
+        played = self.search.played(*self.search.run(Branch(self.before)))
         if self.options.most > 0:
             self.take(Branch(self.before), played)
         behind = played.schedule[len(self.before):]
@@ -273,7 +284,7 @@ class Explorer:
                 left -= len(batch)
                 if pool is None:
                     for branch in batch:
-                        self.take(branch, self.search.run(branch))
+                        self.take(branch, self.search.played(*self.search.run(branch)))
                     break
                 running[pool.submit(work, [(branch.before, branch.actor) for branch in batch])] = batch
             if left <= 0 and not running:
@@ -312,7 +323,7 @@ class Explorer:
     # What is printed
 
     def schedule_text(self, place: Rank) -> str:
-        return '\n'.join(order_lines(runs_of(list(place[1])), short=True))
+        return '\n'.join(order_lines(runs_of(place[1]), short=True))
 
     def total(self) -> int:
         """How many interleavings there are, by the counts of the first run."""
@@ -345,7 +356,7 @@ class Explorer:
         for actor in self.search.scenario.actors.values():
             lines.append(f'actor {actor.number}, {actor.title}')
             for k, item in enumerate(actor.items):
-                table = self.found.items.get((actor.number, k), {})
+                table = self.found.of_item((actor.number, k))
                 lines.append(f"  item {k} `{item.text}`: {len(table)} outcome{'' if len(table) == 1 else 's'}")
                 for outcome, (many, place) in sorted(table.items(), key=lambda one: one[1][1]):
                     words = self.words_of(outcome, actor.role)
@@ -373,9 +384,8 @@ class Explorer:
     def claims(self) -> dict[bytes, list[tuple[Key, str]]]:
         """What is printed of each schedule."""
         said: dict[bytes, list[tuple[Key, str]]] = {}
-        for key, table in self.found.items.items():
-            for outcome, (_, place) in table.items():
-                said.setdefault(place[1], []).append((key, outcome))
+        for (key, outcome), place in self.found.best.items():
+            said.setdefault(place[1], []).append((key, outcome))
         for whole, (_, place) in (self.found.wholes.items() if self.options.joint else ()):
             said.setdefault(place[1], []).extend(whole)
         return said

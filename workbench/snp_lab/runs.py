@@ -23,6 +23,8 @@ from .texts import Complaint, Line
 from .touches import EVERYTHING, Bound, assigned_frames, bounds_of, touch_of
 
 EVENTS_OF_ATTEMPT = 32
+# A run as the program tells it: the schedule and its report.
+Told = tuple[bytes, str]
 
 
 @dataclass(frozen=True)
@@ -75,34 +77,37 @@ class Search:
     # Asking
 
     def text_of(self, schedule: bytes) -> str:
-        return '\n'.join(self.head + order_lines(runs_of(list(schedule))) + ['end']) + '\n'
+        return '\n'.join(self.head + order_lines(runs_of(schedule)) + ['end']) + '\n'
 
     def ask(self, schedule: bytes) -> tuple[Played | None, int]:
         """The run of a schedule, or the entry of it that names a finished actor."""
+        output, refused = self.report_of(schedule)
+        return (self.played(schedule, output) if refused < 0 else None), refused
+
+    def report_of(self, schedule: bytes) -> tuple[str, int]:
+        """The report of a schedule and -1, or nothing and the entry that names a finished actor."""
         answer = self.program.replay(self.text_of(schedule))
         if answer.status == 0:
-            return self.played(schedule, answer.output), -1
+            return answer.output, -1
         refused = answer.refused_entry
         if refused is None:
             said = answer.output.strip()
             raise Complaint(f'the program refuses this scenario with `{said}`: {refusal_words(said)}', self.scenario.name)
-        return None, refused[0]
+        return '', refused[0]
 
     def played(self, schedule: bytes, output: str) -> Played:
         """A report, each of whose lines is read once in a search."""
         lines = output.split('\n')[:-1]
-        steps = []
-        for place in range(1, len(schedule) + 1):
-            line = lines[place].partition(' ')[2]
-            steps.append(self.known.get(line) or self.read_step(line))
+        rests = [line.partition(' ')[2] for line in lines[1:len(schedule) + 1]]
+        steps = [self.known.get(rest) or self.read_step(rest) for rest in rests]
         return Played(schedule, steps, lines[len(schedule) + 1:], lines)
 
     def read_step(self, line: str) -> Step:
         event = read_event(Line('the report', 0, '0 ' + line), 0)
         likes = sum(1 << k for k, pattern in enumerate(self.patterns) if pattern.match('K ' + line))
         touch = touch_of(self.scenario, event, self.has_firmware) if self.reduce else EVERYTHING
-        self.known[line] = made = Step(event, line, touch, next_item(self.scenario, event), likes)
-        return made
+        made = Step(event, line, touch, next_item(self.scenario, event), likes, (event.actor, event.item), event.answer)
+        return self.known.setdefault(line, made)
 
     def is_finished(self, step: Step) -> bool:
         return step.next_item >= len(self.scenario.actors[step.event.actor].items)
@@ -112,19 +117,24 @@ class Search:
         tries = sum(item.retries + 1 for item in self.scenario.actors[actor].items)
         return min(tries * EVENTS_OF_ATTEMPT, ORDER_LIMIT)
 
-    def unfinished(self, steps: list[Step]) -> list[int]:
-        last = {step.event.actor: step for step in steps}
-        return [actor for actor, one in self.scenario.actors.items()
-                if one.items and (actor not in last or not self.is_finished(last[actor]))]
+    def unfinished(self, schedule: bytes, output: str) -> list[int]:
+        """The actors whose last event in a report isn't that of their last item."""
+        lines = output.split('\n')
+        left: list[int] = []
+        for actor, one in self.scenario.actors.items():
+            rest = lines[schedule.rfind(actor) + 1].partition(' ')[2] if actor in schedule else ''
+            if one.items and not (rest and self.is_finished(self.known.get(rest) or self.read_step(rest))):
+                left.append(actor)
+        return left
 
     # Complete runs
 
-    def complete(self, before: bytes, first: list[int]) -> Played:
+    def complete(self, before: bytes, first: list[int]) -> Told:
         """A run of a schedule's beginning, with each actor then run to its end in this order."""
         behind = b''.join(bytes([actor]) * self.guess(before, actor) for actor in first)
         return self.mended(before, behind)
 
-    def shuffled(self, before: bytes, source: random.Random) -> Played:
+    def shuffled(self, before: bytes, source: random.Random) -> Told:
         """A run of some interleaving behind a schedule's beginning."""
         behind = [actor for actor in self.scenario.actors for _ in range(self.guess(before, actor))]
         source.shuffle(behind)
@@ -133,13 +143,13 @@ class Search:
     def guess(self, before: bytes, actor: int) -> int:
         return max(0, self.totals.get(actor, self.bound(actor)) - before.count(actor)) if self.scenario.actors[actor].items else 0
 
-    def mended(self, before: bytes, behind: bytes) -> Played:
+    def mended(self, before: bytes, behind: bytes) -> Told:
         """A complete run near a schedule: what names a finished actor is left out, what is missing is put behind, and an item that
         has to wait lets the other one come first."""
         schedule = before + behind
         for _ in range(self.patience):
-            found, refused = self.ask(schedule[:ORDER_LIMIT])
-            if found is None:
+            output, refused = self.report_of(schedule[:ORDER_LIMIT])
+            if refused >= 0:
                 if refused < len(before):
                     raise Complaint(f'entry {refused} of the order names an actor that is missing or finished', self.scenario.name)
                 gone = schedule[refused]
@@ -147,24 +157,22 @@ class Search:
                 continue
             if len(schedule) > ORDER_LIMIT:
                 raise Complaint(f"a whole run has more than {ORDER_LIMIT} events, which `snp` doesn't replay", self.scenario.name)
-            broken = self.too_early(found, len(before))
+            broken = self.too_early(self.played(schedule, output), len(before)) if self.waits else None
             if broken is not None:
                 place, needed = broken
                 rest = schedule[place:]
                 many = rest.count(needed) or self.bound(needed)
                 schedule = schedule[:place] + bytes([needed]) * many + bytes(actor for actor in rest if actor != needed)
                 continue
-            left = self.unfinished(found.steps)
+            left = self.unfinished(schedule, output)
             if not left:
                 self.totals.update((actor, schedule.count(actor)) for actor in self.scenario.actors)
-                return found
+                return schedule, output
             schedule += bytes([left[0]]) * self.bound(left[0])
         raise Complaint("the scripts don't end where the reports say, so this scenario can't be explored", self.scenario.name)
 
     def too_early(self, found: Played, start: int) -> tuple[int, int] | None:
         """The first event that begins an item which has to wait, and the actor whose item must be done first."""
-        if not self.waits:
-            return None
         items = {actor: 0 for actor in self.scenario.actors}
         for place, step in enumerate(found.steps):
             event = step.event
@@ -190,7 +198,7 @@ class Search:
     def is_tried(self, branch: Branch) -> bool:
         return branch.actor in self.tried.get(branch.key, ())
 
-    def run(self, branch: Branch) -> Played:
+    def run(self, branch: Branch) -> Told:
         """Asks the program for a branch, run to its end."""
         everyone = sorted(self.scenario.actors)
         if branch.actor is None:
@@ -199,7 +207,7 @@ class Search:
 
     def walk(self, branch: Branch, steps: list[Step]) -> list[Branch]:
         """Goes through a run behind a branch; the branches that are to be tried besides."""
-        path = Path(self, steps, len(branch.before), branch.state)
+        path = Path(self, steps, branch.before, branch.state)
         made: list[Branch] = []
         forced = branch.actor
         while path.left:
@@ -222,14 +230,14 @@ class Search:
 class Path:
     """The events of a run one after the other, where one that commutes with all that may come goes before its place."""
 
-    def __init__(self, search: Search, steps: list[Step], start: int, state: State | None) -> None:
+    def __init__(self, search: Search, steps: list[Step], before: bytes, state: State | None) -> None:
         self.search = search
-        self.taken = list(steps[:start])
-        self.schedule = bytearray(step.event.actor for step in self.taken)
-        self.left: deque[Step] = deque(steps[start:])
+        self.taken = steps[:len(before)]
+        self.schedule = bytearray(before)
+        self.left: deque[Step] = deque(steps[len(before):])
         self.own: dict[int, deque[Step]] = {actor: deque() for actor in search.scenario.actors}
         for step in self.left:
-            self.own[step.event.actor].append(step)
+            self.own[step.key[0]].append(step)
         if state is not None:
             self.state = state.copy()
             return

@@ -6,8 +6,9 @@ decides what is a scenario.
 from __future__ import annotations
 
 import difflib
-from collections.abc import Callable
+from collections.abc import Callable, Iterable
 from dataclasses import dataclass, field
+from itertools import groupby
 
 from .texts import Complaint, Line, hex_of, need_number, number_of, told_lines
 
@@ -387,15 +388,9 @@ def parse(text: str, name: str) -> Scenario:
     return reader.scenario
 
 
-def runs_of(actors: list[int]) -> list[tuple[int, int]]:
+def runs_of(actors: Iterable[int]) -> list[tuple[int, int]]:
     """Actors as runs, each as long as possible."""
-    runs: list[tuple[int, int]] = []
-    for actor in actors:
-        if runs and runs[-1][0] == actor:
-            runs[-1] = (actor, runs[-1][1] + 1)
-        else:
-            runs.append((actor, 1))
-    return runs
+    return [(actor, len(list(same))) for actor, same in groupby(actors)]
 
 
 def order_lines(runs: list[tuple[int, int]], short: bool = False) -> list[str]:

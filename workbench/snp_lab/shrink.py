@@ -42,11 +42,11 @@ class Draft:
         lines = list(self.head)
         for k, script in enumerate(self.scripts):
             lines += script.numbered(k + 1)
-        return '\n'.join(lines + order_lines(runs_of(list(self.schedule))) + list(self.ending)) + '\n'
+        return '\n'.join(lines + order_lines(runs_of(self.schedule)) + list(self.ending)) + '\n'
 
     @property
     def turns(self) -> int:
-        return len(runs_of(list(self.schedule)))
+        return len(runs_of(self.schedule))
 
 
 def draft_of(text: str, name: str) -> Draft:
@@ -148,7 +148,7 @@ def fewer_events(draft: Draft, events: list[Event]) -> Iterator[Draft]:
 
 def fewer_turns(draft: Draft, events: list[Event]) -> Iterator[Draft]:
     """A turn joined to an earlier or later one of its actor, and the end of what an actor does left out."""
-    runs = runs_of(list(draft.schedule))
+    runs = runs_of(draft.schedule)
     for k, (actor, many) in enumerate(runs):
         rest = runs[:k] + runs[k + 1:]
         yield replace(draft, schedule=spelled(rest))

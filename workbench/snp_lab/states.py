@@ -30,6 +30,9 @@ class Step:
     touch: Touch
     next_item: int
     likes: int = 0
+    # the actor and its item, and how the attempt ended: nothing where it goes on
+    key: tuple[int, int] = (0, 0)
+    answer: str = ''
 
 
 def written_value(step: Step, item: Item) -> int:
