@@ -33,8 +33,8 @@ module _ {T J O E : Type 0} (legal : O → List (ℕ × E) → Type 0) (stands :
   Good s = Sound legal stands touches opening list n actors c s
 
   pub starts : (ws : List ℕ) (xs : List S) (log : List (ℕ × E)) → ws ≡ replicate (n + 1) 0 → length xs ≡ n + 1 → log ≡ [] → legal c [] → 0 < actors → Laid legal stands touches opening list n c [] xs
-      → Good (opening_state ws xs (opener c log n))
-  starts ws xs log zero_words many empty lg some_actor laid = let w : View O E = opener c log n in record {
+      → Good (opening_state ws xs (opener c log n actors))
+  starts ws xs log zero_words many empty lg some_actor laid = let w : View O E = opener c log n actors in record {
     log = [];
     legal_log = lg;
     many_words = ap (λ (us : List ℕ). length us) zero_words ∙ length-replicate (n + 1) 0;
@@ -44,6 +44,7 @@ module _ {T J O E : Type 0} (legal : O → List (ℕ × E) → Type 0) (stands :
     each_hold = λ i v k l h. absurd (nothing_held (n + 1) k (subst (λ (z : View O E). Holds z k) (sym (only i v l).1) h));
     apart = λ i v j u li lj e. (only i v li).0 ∙ sym (only j u lj).0;
     below = λ i v l. subst (λ (z : View O E). z.actor ≤ actors) (only i v l).1 some_actor;
+    counted = λ i v l. subst (λ (z : View O E). z.actors ≡ actors) (only i v l).1 refl;
     gone = λ i v j u p x li lj e is. some-ne-none x (sym (ap (λ (z : View O E). get_elem? z.taken_in p) (only i v li).1 ∙ e));
     fresh = λ i m a l one less. record {
       unused = λ j v lv is. let b : 1 < a = subst (λ (z : View O E). z.made < a) (sym (only i m l).1) less in let d : 1 ≡ a = ap (λ (z : View O E). z.actor) (only j v lv).1 ∙ is in omega arith;
@@ -53,13 +54,13 @@ module _ {T J O E : Type 0} (legal : O → List (ℕ × E) → Type 0) (stands :
   }
     where
       s : St
-      s = opening_state ws xs (opener c log n)
+      s = opening_state ws xs (opener c log n actors)
 
-      only : (i : ℕ) (v : View O E) → Live c s i v → (i ≡ 0) × (opener c log n ≡ v)
+      only : (i : ℕ) (v : View O E) → Live c s i v → (i ≡ 0) × (opener c log n actors ≡ v)
       only zero v l = (refl, some-injective _ v l.0)
       only (suc i) v l = absurd (some-ne-none v (sym l.0))
 
-      first : ViewOk touches n c [] (opener c log n)
+      first : ViewOk touches n c [] (opener c log n actors)
       first = record {
         since = [];
         begins = sym empty ∙ sym (append-nil log);
@@ -79,6 +80,7 @@ module _ {T J O E : Type 0} (legal : O → List (ℕ × E) → Type 0) (stands :
     pub was : View O E
     pub live : Live c s j was
     pub actor : was.actor ≡ u.actor
+    pub passes : was.actors ≡ u.actors
     pub held : was.held ≡ u.held
     pub made : was.made ≤ u.made
     pub view : ViewOk touches n c log u
@@ -98,6 +100,7 @@ module _ {T J O E : Type 0} (legal : O → List (ℕ × E) → Type 0) (stands :
     apart = λ i u j t li lj e. ⊎_elim (λ o. ⊎_elim (λ p. r.apart i o.was j p.was o.live p.live (o.actor ∙ e ∙ sym p.actor)) (λ p. absurd (new.unused i o.was o.live (o.actor ∙ e ∙ ap (λ (z : View O E). z.actor) (sym p.1)))) (from j t lj))
         (λ o. ⊎_elim (λ p. absurd (new.unused j p.was p.live (p.actor ∙ sym e ∙ ap (λ (z : View O E). z.actor) (sym o.1)))) (λ p. o.0 ∙ sym p.0) (from j t lj)) (from i u li);
     below = λ i u l. ⊎_elim (λ o. subst (λ (z : ℕ). z ≤ actors) o.actor (r.below i o.was o.live)) (λ e. subst (λ (z : View O E). z.actor ≤ actors) e.1 new_below) (from i u l);
+    counted = λ i u l. ⊎_elim (λ o. sym o.passes ∙ r.counted i o.was o.live) (λ e. subst (λ (z : View O E). z.actors ≡ actors) e.1 (r.counted id v lv)) (from i u l);
     gone = λ i u j t p x li lj e. ⊎_elim (λ b. ⊎_elim (λ o is. r.gone b.0 b.1 j o.was p x b.2 o.live b.3 (is ∙ sym o.actor)) (λ q is. new.unknown b.0 b.1 p x b.2 b.3 (is ∙ ap (λ (z : View O E). z.actor) (sym q.1))) (from j t lj))
         (λ b. absurd b) (kept i u p x li e);
     fresh = λ i m a l is less. ⊎_elim (λ o. still a (r.fresh i o.was a o.live (o.actor ∙ is) (let b = o.made in omega arith)) (above i m a l is less))
@@ -148,11 +151,12 @@ module _ {T J O E : Type 0} (legal : O → List (ℕ × E) → Type 0) (stands :
         was = v;
         live = subst (λ (z : ℕ). Live c s z v) (sym t.0) lv;
         actor = ap (λ (z : View O E). z.actor) t.1;
+        passes = ap (λ (z : View O E). z.actors) t.1;
         held = ap (λ (z : View O E). z.held) t.1;
         made = subst (λ (z : View O E). v.made ≤ z.made) t.1 (let b : v.made ≤ v.made + 1 = omega arith in b);
         view = subst (λ (z : View O E). ViewOk touches n c r.log z) t.1 making_view;
       })
-          (λ t. inl record { was = u; live = (t.1, l.1); actor = refl; held = refl; made = le_refl u.made; view = r.views_ok j u (t.1, l.1) }) (at_set s.views id j (making v) u e))
+          (λ t. inl record { was = u; live = (t.1, l.1); actor = refl; passes = refl; held = refl; made = le_refl u.made; view = r.views_ok j u (t.1, l.1) }) (at_set s.views id j (making v) u e))
           (λ e. inr e) (at_last_or vs (newcomer v) u j l.0)
 
       -- what a pass has taken in, it had taken in before
@@ -197,6 +201,7 @@ module _ {T J O E : Type 0} (legal : O → List (ℕ × E) → Type 0) (stands :
     each_hold = λ j u k l h. let o = (from j u l).1 in r.each_hold j o.was k o.live (held_on o.was u k o.held h) ∙ o.actor;
     apart = λ i u j t li lj e. let o = (from i u li).1 in let p = (from j t lj).1 in r.apart i o.was j p.was o.live p.live (o.actor ∙ e ∙ sym p.actor);
     below = λ i u l. let o = (from i u l).1 in subst (λ (z : ℕ). z ≤ actors) o.actor (r.below i o.was o.live);
+    counted = λ i u l. let o = (from i u l).1 in sym o.passes ∙ r.counted i o.was o.live;
     gone = λ i u j t p x li lj e. let q = from j t lj in let o = q.1 in ⊎_elim (λ b is. r.gone b.0 b.1 j o.was p x b.2 o.live b.3 (is ∙ sym o.actor))
         (λ b is. q.0 (r.apart j o.was other w o.live lw (o.actor ∙ sym is ∙ ap (λ (z : Absorbed E). z.actor) (sym b)))) (kept i u p x li e);
     fresh = λ i m a l is less. let o = (from i m l).1 in still a (r.fresh i o.was a o.live (o.actor ∙ is) (let b = o.made in omega arith));
@@ -246,11 +251,12 @@ module _ {T J O E : Type 0} (legal : O → List (ℕ × E) → Type 0) (stands :
               was = v;
               live = subst (λ (z : ℕ). Live c s z v) (sym h.0) lv;
               actor = ap (λ (z : View O E). z.actor) h.1;
+              passes = ap (λ (z : View O E). z.actors) h.1;
               held = ap (λ (z : View O E). z.held) h.1;
               made = subst (λ (z : View O E). v.made ≤ z.made) h.1 (le_refl v.made);
               view = subst (λ (z : View O E). ViewOk touches n c r.log z) h.1 both_view;
             })
-                (λ h. record { was = u; live = (h.1, l.1); actor = refl; held = refl; made = le_refl u.made; view = r.views_ok j u (h.1, l.1) }) (at_set s.views id j both u t.1),
+                (λ h. record { was = u; live = (h.1, l.1); actor = refl; passes = refl; held = refl; made = le_refl u.made; view = r.views_ok j u (h.1, l.1) }) (at_set s.views id j both u t.1),
           )) (at_set vs other j spent u l.0)
 
       kept : (i : ℕ) (u : View O E) (p : ℕ) (x : Absorbed E) → Live c s' i u → get_elem? u.taken_in p ≡ some x → ((b : ℕ) × (t : View O E) × Live c s b t × (get_elem? t.taken_in p ≡ some x)) ⊎ (absorbed w ≡ x)

@@ -50,28 +50,28 @@ module _ {O E : Type 0} where
   took_all actors xs v all knows a pos most = let h = all a pos most in let p = h.1 in
       ⊎_elim (λ e. inl (ap (λ (z : Absorbed E). z.actor) (sym e) ∙ h.3)) (λ t. inr (t.0, absorbed p.view, t.1, h.3)) (knows h.0 p h.2)
 
-  first_new : (c : O) (n : ℕ) → IsNew n 1 c (opener {E = E} c [] n)
-  first_new c n = record { actor = refl; live = refl; seen = refl; mine = refl; held = refl; refusals = refl }
+  first_new : (c : O) (n actors : ℕ) → IsNew n actors 1 c (opener {E = E} c [] n actors)
+  first_new c n actors = record { actor = refl; many = refl; live = refl; seen = refl; mine = refl; held = refl; refusals = refl }
 
   -- the list of the first pass alone
-  pub new_first : (cells : CellsView O) (x : PassView O E) → x ≡ record { table = cells.table; view = opener cells.opening [] cells.cells } → AreNew cells (x ∷ [])
-  new_first cells x e zero p g = let is = sym (some-injective x p g) ∙ e in subst (λ (z : PassView O E). (z.table ≡ cells.table) × IsNew cells.cells 1 cells.opening z.view) (sym is) (refl, first_new cells.opening cells.cells)
+  pub new_first : (cells : CellsView O) (x : PassView O E) → x ≡ record { table = cells.table; view = opener cells.opening [] cells.cells cells.actors } → AreNew cells (x ∷ [])
+  new_first cells x e zero p g = let is = sym (some-injective x p g) ∙ e in subst (λ (z : PassView O E). (z.table ≡ cells.table) × IsNew cells.cells cells.actors 1 cells.opening z.view) (sym is) (refl, first_new cells.opening cells.cells cells.actors)
   new_first cells x e (suc i) p g = absurd (some-ne-none p (sym g))
 
-  made_new : (n a : ℕ) (c : O) (v : View O E) → IsNew n a c v → IsNew n a c (making v)
-  made_new n a c v h = record { actor = h.actor; live = h.live; seen = h.seen; mine = h.mine; held = h.held; refusals = h.refusals }
+  made_new : (n actors a : ℕ) (c : O) (v : View O E) → IsNew n actors a c v → IsNew n actors a c (making v)
+  made_new n actors a c v h = record { actor = h.actor; many = h.many; live = h.live; seen = h.seen; mine = h.mine; held = h.held; refusals = h.refusals }
 
-  next_new : (n a b : ℕ) (c : O) (v : View O E) → IsNew n a c v → v.made + 1 ≡ b → IsNew n b c (newcomer v)
-  next_new n a b c v h e = record { actor = e; live = h.live; seen = h.seen; mine = refl; held = ap (λ (m : ℕ). replicate m false) (ap (λ (bs : List Bool). length bs) h.held ∙ length-replicate (n + 1) false); refusals = refl }
+  next_new : (n actors a b : ℕ) (c : O) (v : View O E) → IsNew n actors a c v → v.made + 1 ≡ b → IsNew n actors b c (newcomer v)
+  next_new n actors a b c v h e = record { actor = e; many = h.many; live = h.live; seen = h.seen; mine = refl; held = ap (λ (m : ℕ). replicate m false) (ap (λ (bs : List Bool). length bs) h.held ∙ length-replicate (n + 1) false); refusals = refl }
 
   -- the list after one more pass
   pub new_next : (cells : CellsView O) (xs ys : List (PassView O E)) (x y : PassView O E) (m : ℕ) → AreNew cells xs → get_elem? xs 0 ≡ some x → x.view.made ≡ m → length xs ≡ m
       → y ≡ record { table = x.table; view = newcomer x.view } → ys ≡ set xs 0 record { table = x.table; view = making x.view } ++ y ∷ [] → AreNew cells ys
-  new_next cells xs ys x y m h first made long is e i p g = ⊎_elim (λ t. ⊎_elim (λ q. subst (λ (z : PassView O E). (z.table ≡ cells.table) × IsNew cells.cells (i + 1) cells.opening z.view) q.1
-      (let old = h 0 x first in (old.0, subst (λ (k : ℕ). IsNew cells.cells (k + 1) cells.opening (making x.view)) (sym q.0) (made_new cells.cells 1 cells.opening x.view old.1))))
+  new_next cells xs ys x y m h first made long is e i p g = ⊎_elim (λ t. ⊎_elim (λ q. subst (λ (z : PassView O E). (z.table ≡ cells.table) × IsNew cells.cells cells.actors (i + 1) cells.opening z.view) q.1
+      (let old = h 0 x first in (old.0, subst (λ (k : ℕ). IsNew cells.cells cells.actors (k + 1) cells.opening (making x.view)) (sym q.0) (made_new cells.cells cells.actors 1 cells.opening x.view old.1))))
       (λ q. h i p q.1) (at_set xs 0 i record { table = x.table; view = making x.view } p t))
-      (λ t. subst (λ (z : PassView O E). (z.table ≡ cells.table) × IsNew cells.cells (i + 1) cells.opening z.view) (sym is ∙ t.1)
-      (let old = h 0 x first in (old.0, next_new cells.cells 1 (i + 1) cells.opening x.view old.1 (made' t.0))))
+      (λ t. subst (λ (z : PassView O E). (z.table ≡ cells.table) × IsNew cells.cells cells.actors (i + 1) cells.opening z.view) (sym is ∙ t.1)
+      (let old = h 0 x first in (old.0, next_new cells.cells cells.actors 1 (i + 1) cells.opening x.view old.1 (made' t.0))))
       (at_last_or (set xs 0 record { table = x.table; view = making x.view }) y p i (ap (λ (zs : List (PassView O E)). get_elem? zs i) (sym e) ∙ g))
     where
       made' : i ≡ length (set xs 0 record { table = x.table; view = making x.view }) → x.view.made + 1 ≡ i + 1

@@ -19,6 +19,7 @@ use Rattle.entry_cells.proofs.EntryLaws.{in_range, index_here, index_else}
 pub record Same {O E : Type 0} (v w : View O E) : Type 0 where
   pub actor : v.actor ≡ w.actor
   pub made : v.made ≡ w.made
+  pub actors : v.actors ≡ w.actors
   pub taken_in : v.taken_in ≡ w.taken_in
 
 module _ {T J O E : Type 0} (legal : O → List (ℕ × E) → Type 0) (stands : ℕ → O → List (ℕ × E) → T → Type 0) (touches : O → List (ℕ × E) → ℕ × E → ℕ → Type 0) (opening : J → O) (list : J → List (ℕ × E)) (n actors : ℕ) (c : O) where
@@ -68,6 +69,7 @@ module _ {T J O E : Type 0} (legal : O → List (ℕ × E) → Type 0) (stands :
     each_hold = λ j u m l h. ⊎_elim (λ t. subst (λ (z : View O E). Holds z m → slice_index s'.words m ≡ z.actor) t.1 (mine m) h) (λ t. other j u m t.0 t.1 h) (found j u l);
     apart = λ i u j t li lj e. let p = before i u li in let q = before j t lj in r.apart i p.0 j q.0 p.1 q.1 (p.2.actor ∙ e ∙ sym q.2.actor);
     below = λ i u l. let p = before i u l in subst (λ (z : ℕ). z ≤ actors) p.2.actor (r.below i p.0 p.1);
+    counted = λ i u l. let p = before i u l in sym p.2.actors ∙ r.counted i p.0 p.1;
     gone = λ i u j t p y li lj e. let b = before i u li in let f = before j t lj in λ is. r.gone i b.0 j f.0 p y b.1 f.1 (ap (λ (zs : List (Absorbed E)). get_elem? zs p) b.2.taken_in ∙ e) (is ∙ sym f.2.actor);
     fresh = λ i m a l one less. let b = before i m l in fresh a (r.fresh i b.0 a b.1 (b.2.actor ∙ one) (subst (λ (z : ℕ). z < a) (sym b.2.made) less));
   }
@@ -79,7 +81,7 @@ module _ {T J O E : Type 0} (legal : O → List (ℕ × E) → Type 0) (stands :
       found j u l = ⊎_elim (λ t. inl t) (λ t. inr (t.0, (t.1, l.1))) (at_set s.views id j w u l.0)
 
       before : (j : ℕ) (u : View O E) → Live c s' j u → (u₀ : View O E) × Live c s j u₀ × Same u₀ u
-      before j u l = ⊎_elim (λ t. (v, subst (λ (z : ℕ). Live c s z v) (sym t.0) d.live, subst (λ (z : View O E). Same v z) t.1 d.same)) (λ t. (u, t.1, record { actor = refl; made = refl; taken_in = refl })) (found j u l)
+      before j u l = ⊎_elim (λ t. (v, subst (λ (z : ℕ). Live c s z v) (sym t.0) d.live, subst (λ (z : View O E). Same v z) t.1 d.same)) (λ t. (u, t.1, record { actor = refl; made = refl; actors = refl; taken_in = refl })) (found j u l)
 
       live' : Live c s' id w
       live' = (set_here s.views id w (in_range s.views id v d.live.0), d.stays_live)

@@ -1,5 +1,5 @@
 -- Each step on a word keeps the rule.
-use Rattle.std.proofs.Common.{◌≡◌, ◌≢◌, ℕ, ◌+◌, ◌<◌, ◌^◌, true, false, eqb, List, [], ◌∷◌, ◌++◌, set, slice_index, Option, Some, None, sym, refl, ap, ◌∙◌, subst, inl, inr, ⊎_elim, length-set, append-nil, append_assoc, true≢false, arith}
+use Rattle.std.proofs.Common.{◌≡◌, ◌≢◌, ℕ, ◌+◌, ◌<◌, ◌≤◌, ◌^◌, true, false, eqb, List, [], ◌∷◌, ◌++◌, set, slice_index, Option, Some, None, sym, refl, ap, ◌∙◌, subst, inl, inr, ⊎_elim, length-set, append-nil, append_assoc, true≢false, arith}
 use mathlib.Core.Option.{some, none, some-injective, some-ne-none}
 use mathlib.Core.Option as maybe
 use prog.Atomic.{either}
@@ -44,7 +44,7 @@ module _ {T J O E : Type 0} (legal : O → List (ℕ × E) → Type 0) (stands :
   Good s = Sound legal stands touches opening list n actors c s
 
   unchanged : (v : View O E) → Same v v
-  unchanged v = record { actor = refl; made = refl; taken_in = refl }
+  unchanged v = record { actor = refl; made = refl; actors = refl; taken_in = refl }
 
   zero_is : (x a : ℕ) → x ≡ a → x ≡ 0 → 0 < a → ⊥
   zero_is x a e z p = omega arith
@@ -78,7 +78,7 @@ module _ {T J O E : Type 0} (legal : O → List (ℕ × E) → Type 0) (stands :
       settle legal stands touches opening list n actors c s r id v w k v.actor (set s.homes k none) r.log record {
         live = l;
         stays_live = l.1;
-        same = record { actor = refl; made = refl; taken_in = refl };
+        same = record { actor = refl; made = refl; actors = refl; taken_in = refl };
         near = near;
         homes = length-set s.homes k none ∙ r.many_homes;
         others_home = λ j ne. set_else s.homes k j none ne;
@@ -102,7 +102,7 @@ module _ {T J O E : Type 0} (legal : O → List (ℕ × E) → Type 0) (stands :
       settle legal stands touches opening list n actors c s r id v w k x s.homes r.log record {
         live = l;
         stays_live = l.1;
-        same = record { actor = refl; made = refl; taken_in = refl };
+        same = record { actor = refl; made = refl; actors = refl; taken_in = refl };
         near = near;
         homes = r.many_homes;
         others_home = λ j ne. refl;
@@ -129,6 +129,10 @@ module _ {T J O E : Type 0} (legal : O → List (ℕ × E) → Type 0) (stands :
   told k x m m' slots many live comes n' c' many' live' = let same : n ≡ n' = omega arith in
       subst (λ (z : ℕ). Comes legal stands touches opening list z k c' m m') same (subst (λ (d : O). Comes legal stands touches opening list n k d m m') (some_is c c' (sym live ∙ live')) comes)
 
+  -- who holds a cell is none above the number of passes
+  not_above : (s : St) (r : Good s) (id : ℕ) (v : View O E) (i : ℕ) (u : View O E) (k : ℕ) → Live c s id v → HeldBy c s k i u → slice_index s.words k ≤ v.actors
+  not_above s r id v i u k l hb = let word : slice_index s.words k ≡ u.actor = hb.2 in let below = r.below i u hb.0 in let many = r.counted id v l in omega arith
+
   pub take_word : (slots id : ℕ) (me : Seated T J O E) (k a : ℕ) → slots ≡ n + 1 → me.0.opening ≡ Some c → me.0.out ≡ None → me.0.actor ≡ a → k < n + 1 → (Holds me.0 k → ⊥)
       → Allows Good slots id me k (λ x. either (eqb x 0) a x) (takes legal stands touches opening list (step slots k 0 a none) me)
   take_word slots id me k a many live closed is near lacks s r wide at small = let v = me.0 in let l : Live c s id v = (at, live) in let x : ℕ = slice_index s.words k in
@@ -148,7 +152,7 @@ module _ {T J O E : Type 0} (legal : O → List (ℕ × E) → Type 0) (stands :
         keeps,
         tt,
         refuse s r id v k i u near l closed lacks hb,
-        ((λ e. absurd (ne e)), λ _. (refl, (λ e. lacks (subst (λ (z : View O E). Holds z k) (alike s r i u id v hb.0 l (sym hb.2 ∙ e)).1 hb.1)), subst (λ (z : ℕ). z < 2 ^ 32) (sym hb.2) (r.views_ok i u hb.0).small)),
+        ((λ e. absurd (ne e)), λ _. (refl, (λ e. lacks (subst (λ (z : View O E). Holds z k) (alike s r i u id v hb.0 l (sym hb.2 ∙ e)).1 hb.1)), subst (λ (z : ℕ). z < 2 ^ 32) (sym hb.2) (r.views_ok i u hb.0).small, not_above s r id v i u k l hb)),
       )) (r.each_word k near))
 
   -- a slot that is out goes home with y
@@ -161,7 +165,7 @@ module _ {T J O E : Type 0} (legal : O → List (ℕ × E) → Type 0) (stands :
       subst (λ (zs : List (maybe.Option S)). Good record { words = set s.words k x; homes = zs; views = set s.views id w }) (sym is) (settle legal stands touches opening list n actors c s r id v w k x (set s.homes k (some None)) r.log record {
         live = l;
         stays_live = l.1;
-        same = record { actor = refl; made = refl; taken_in = refl };
+        same = record { actor = refl; made = refl; actors = refl; taken_in = refl };
         near = near;
         homes = length-set s.homes k (some None) ∙ r.many_homes;
         others_home = λ j ne. set_else s.homes k j (some None) ne;
@@ -198,7 +202,7 @@ module _ {T J O E : Type 0} (legal : O → List (ℕ × E) → Type 0) (stands :
       settle legal stands touches opening list n actors c s r id v w k x (set s.homes k none) r.log record {
         live = l;
         stays_live = l.1;
-        same = record { actor = refl; made = refl; taken_in = refl };
+        same = record { actor = refl; made = refl; actors = refl; taken_in = refl };
         near = near;
         homes = length-set s.homes k none ∙ r.many_homes;
         others_home = λ j ne. set_else s.homes k j none ne;
@@ -237,7 +241,7 @@ module _ {T J O E : Type 0} (legal : O → List (ℕ × E) → Type 0) (stands :
         settle legal stands touches opening list n actors c s r id v w k 0 hs r.log record {
           live = l;
           stays_live = l.1;
-          same = record { actor = refl; made = refl; taken_in = refl };
+          same = record { actor = refl; made = refl; actors = refl; taken_in = refl };
           near = near';
           homes = length-set s.homes k (some (Some y)) ∙ r.many_homes;
           others_home = λ j ne. set_else s.homes k j (some (Some y)) ne;
@@ -297,7 +301,7 @@ module _ {T J O E : Type 0} (legal : O → List (ℕ × E) → Type 0) (stands :
         settle legal stands touches opening list n actors c s r id v w k 0 hs log' record {
           live = l;
           stays_live = l.1;
-          same = record { actor = refl; made = refl; taken_in = refl };
+          same = record { actor = refl; made = refl; actors = refl; taken_in = refl };
           near = near;
           homes = length-set s.homes k (some (Some y)) ∙ r.many_homes;
           others_home = λ i ne. set_else s.homes k i (some (Some y)) ne;

@@ -16,7 +16,7 @@ longer_by_one {A} xs ys x e = ap (λ (zs : List A). length zs) e ∙ length-appe
 
 pub free_last : (cells : CellsView ℕ) (xs ys : List (PassView ℕ ℕ)) (x : PassView ℕ ℕ) (a : ℕ) → xs ≡ ys ++ x ∷ [] → length xs ≡ a → AreNew cells xs → IsFree cells a x
 free_last cells xs ys x a e is new = let h = new (length ys) x (ap (λ (zs : List (PassView ℕ ℕ)). get_elem? zs (length ys)) e ∙ at_last ys x (length ys) refl) in
-    ((h.0, h.1.live), (λ k t. nothing_held _ k (ap (λ (bs : List Bool). get_elem? bs k) (sym h.1.held) ∙ t)), h.1.actor ∙ sym (longer_by_one xs ys x e) ∙ is)
+    ((h.0, h.1.live, h.1.many), (λ k t. nothing_held _ k (ap (λ (bs : List Bool). get_elem? bs k) (sym h.1.held) ∙ t)), h.1.actor ∙ sym (longer_by_one xs ys x e) ∙ is)
 
 pub rest_long : (xs ys : List (PassView ℕ ℕ)) (x : PassView ℕ ℕ) (m : ℕ) → xs ≡ ys ++ x ∷ [] → length xs ≡ m + 1 → length ys ≡ m
 rest_long xs ys x m e is = let h = longer_by_one xs ys x e in omega arith

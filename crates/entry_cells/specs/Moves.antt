@@ -1,5 +1,5 @@
 -- What each step tells the pass that makes it. This project's own.
-use Rattle.std.specs.Prelude.{◌≡◌, ◌≢◌, ℕ, ◌+◌, ◌^◌, ◌<◌, List, ◌∷◌, Option, Some, None}
+use Rattle.std.specs.Prelude.{◌≡◌, ◌≢◌, ℕ, ◌+◌, ◌^◌, ◌<◌, ◌≤◌, List, ◌∷◌, Option, Some, None}
 use Rattle.atomic_table.specs.Table.{Me, Step, rest}
 use Rattle.entry_cells.specs.Entries.{entries_of}
 use Rattle.entry_cells.specs.Views.{Holds, Grows, Adds, with_out, with_none_out, taking, refused, given}
@@ -16,10 +16,10 @@ module _ {T J O E : Type 0} (legal : O → List (ℕ × E) → Type 0) (stands :
   abbrev pub Comes : ℕ → ℕ → O → Seated T J O E → Seated T J O E → Type 0
   Comes n k c m m' = (log : List (ℕ × E)) × (m'.0 ≡ taking m.0 k log) × legal c log × Grows touches n c m.0 log × (entries_of m.0.actor log ≡ m.0.mine) × Holds (taking m.0 k log) k × ((y : Lodged T J) × (m'.1 ≡ (k, Some y) ∷ m.1) × Lies stands opening list n c log k y)
 
-  -- of a compare and exchange that found r: the cell comes where r is 0, and else r is another pass
+  -- of a compare and exchange that found r: the cell comes where r is 0, and else r is another of the passes
   abbrev pub takes : Step (Option (Lodged T J)) → Seated T J O E → ℕ → Seated T J O E → Type 0
   takes st m r m' = (r ≡ 0 → (n : ℕ) (c : O) → st.slots ≡ n + 1 → m.0.opening ≡ Some c → Comes n st.word c m m')
-      × (r ≢ 0 → (m' ≡ (refused m.0 st.word r, m.1)) × (r ≢ m.0.actor) × (r < 2 ^ 32))
+      × (r ≢ 0 → (m' ≡ (refused m.0 st.word r, m.1)) × (r ≢ m.0.actor) × (r < 2 ^ 32) × (r ≤ m.0.actors))
 
   -- what may be given back as cell k
   abbrev pub Fits : ℕ → O → View O E → ℕ → Lodged T J → Type 0

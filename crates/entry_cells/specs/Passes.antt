@@ -80,15 +80,17 @@ pub record Refuses {S O E : Type 0} (me : Me S (View O E)) (k r : ℕ) (after : 
   pub no_slot : after.1 ≡ []
   pub real : 0 < r
   pub other : r ≢ me.0.actor
+  pub below : r ≤ me.0.actors
 
 module _ {O E : Type 0} where
-  -- the pass is of these cells
+  -- the pass is of these cells, and knows how many passes they have
   abbrev pub IsPassOf : CellsView O → PassView O E → Type 0
-  IsPassOf cells pass = (pass.table ≡ cells.table) × (pass.view.opening ≡ Some cells.opening)
+  IsPassOf cells pass = (pass.table ≡ cells.table) × (pass.view.opening ≡ Some cells.opening) × (pass.view.actors ≡ cells.actors)
 
-  -- the pass of the actor a before its first call, among n cells
-  pub record IsNew (n a : ℕ) (c : O) (v : View O E) : Type 0 where
+  -- the pass of the actor a, of so many, before its first call, among n cells
+  pub record IsNew (n actors a : ℕ) (c : O) (v : View O E) : Type 0 where
     pub actor : v.actor ≡ a
+    pub many : v.actors ≡ actors
     pub live : v.opening ≡ Some c
     pub seen : v.seen ≡ []
     pub mine : v.mine ≡ []
@@ -113,7 +115,7 @@ module _ {O E : Type 0} where
 
   -- the passes of the actors from 1 on, in their order, before their first calls
   abbrev pub AreNew : CellsView O → List (PassView O E) → Type 0
-  AreNew cells passes = (i : ℕ) (p : PassView O E) → get_elem? passes i ≡ some p → (p.table ≡ cells.table) × IsNew cells.cells (i + 1) cells.opening p.view
+  AreNew cells passes = (i : ℕ) (p : PassView O E) → get_elem? passes i ≡ some p → (p.table ≡ cells.table) × IsNew cells.cells cells.actors (i + 1) cells.opening p.view
 
   -- w was closed into v
   abbrev pub Absorbs : View O E → View O E → Type 0

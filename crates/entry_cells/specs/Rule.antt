@@ -70,5 +70,6 @@ module _ {T J O E : Type 0} (legal : O → List (ℕ × E) → Type 0) (stands :
     pub each_hold : (i : ℕ) (v : View O E) (k : ℕ) → Live c s i v → Holds v k → slice_index s.words k ≡ v.actor
     pub apart : (i : ℕ) (v : View O E) (j : ℕ) (w : View O E) → Live c s i v → Live c s j w → v.actor ≡ w.actor → i ≡ j
     pub below : (i : ℕ) (v : View O E) → Live c s i v → v.actor ≤ actors
+    pub counted : (i : ℕ) (v : View O E) → Live c s i v → v.actors ≡ actors
     pub gone : (i : ℕ) (v : View O E) (j : ℕ) (w : View O E) (p : ℕ) (x : Absorbed E) → Live c s i v → Live c s j w → get_elem? v.taken_in p ≡ some x → x.actor ≢ w.actor
     pub fresh : (i : ℕ) (m : View O E) (a : ℕ) → Live c s i m → m.actor ≡ 1 → m.made < a → Fresh c s log a

@@ -40,8 +40,8 @@ module _ {O E : Type 0} where
   gave_journal v n log = record v { seen = log; mine = entries_of v.actor log; held = slice_set v.held n false; out = None }
 
   -- the view of the first pass
-  abbrev pub opener : O → List (ℕ × E) → ℕ → View O E
-  opener c log n = record { actor = 1; opening = Some c; seen = log; mine = entries_of 1 log; held = replicate (n + 1) false; refusals = []; out = None; made = 1; taken_in = [] }
+  abbrev pub opener : O → List (ℕ × E) → ℕ → ℕ → View O E
+  opener c log n actors = record { actor = 1; opening = Some c; seen = log; mine = entries_of 1 log; held = replicate (n + 1) false; refusals = []; out = None; made = 1; actors = actors; taken_in = [] }
 
   -- the first pass makes one more
   abbrev pub making : View O E → View O E
@@ -49,7 +49,7 @@ module _ {O E : Type 0} where
 
   -- the pass that it makes
   abbrev pub newcomer : View O E → View O E
-  newcomer v = record { actor = v.made + 1; opening = v.opening; seen = v.seen; mine = []; held = replicate (length v.held) false; refusals = []; out = None; made = 0; taken_in = [] }
+  newcomer v = record { actor = v.made + 1; opening = v.opening; seen = v.seen; mine = []; held = replicate (length v.held) false; refusals = []; out = None; made = 0; actors = v.actors; taken_in = [] }
 
   abbrev pub absorbed : View O E → Absorbed E
   absorbed v = record { actor = v.actor; seen = v.seen; mine = v.mine }
@@ -60,7 +60,7 @@ module _ {O E : Type 0} where
 
   -- the view of a pass that was closed
   abbrev pub spent : View O E
-  spent = record { actor = 0; opening = None; seen = []; mine = []; held = []; refusals = []; out = None; made = 0; taken_in = [] }
+  spent = record { actor = 0; opening = None; seen = []; mine = []; held = []; refusals = []; out = None; made = 0; actors = 0; taken_in = [] }
 
 module _ {T J E : Type 0} (list : J → List (ℕ × E)) where
   -- what a pass has seen, and what it has added, after it gave back a slot's value

@@ -38,6 +38,8 @@ pub struct View<O, E> {
     pub out: Option<u32>,
     /// In the first pass, the number of passes that were made.
     pub made: u32,
+    /// How many passes there are once all are made.
+    pub actors: u32,
     /// The passes that were closed into this one.
     pub taken_in: LinkedList<Absorbed<E>>,
 }
@@ -71,7 +73,7 @@ impl<T: Kept<J>, J: Journal> TableRule<
 
     ghost holds = { λ about. Sound T.legal T.stands T.touches J.opening J.list about.cells about.actors (J.opening about.journal.value) };
 
-    ghost first = { λ about. opener (J.opening about.journal.value) (J.list about.journal.value) about.cells };
+    ghost first = { λ about. opener (J.opening about.journal.value) (J.list about.journal.value) about.cells about.actors };
 }
 
 pub(crate) type Board<T, J> = Shared<

@@ -70,7 +70,7 @@ impl<T: Kept<J>, J: Journal> Cells<T, J> {
         requires actors { 0 < actors }
         requires few { vec_len homes < 4294967295 }
         ensures cells { IfOk result (λ r. (r.0.cells ≡ vec_len homes) × (r.0.actors ≡ actors) × (r.0.opening ≡ J.opening journal)) }
-        ensures first { IfOk result (λ r. r.1 ≡ record { table = r.0.table; view = opener (J.opening journal) [] (vec_len homes) }) }
+        ensures first { IfOk result (λ r. r.1 ≡ record { table = r.0.table; view = opener (J.opening journal) [] (vec_len homes) actors }) }
     {
         let count = homes.len();
         let about = About {
@@ -96,7 +96,7 @@ impl<T: Kept<J>, J: Journal> Cells<T, J> {
 
     // The passes of all actors.
     fn passes(&self, first: Pass<T, J>) -> Result<Vec<Pass<T, J>>, AllocError>
-        requires { first ≡ record { table = self.now.table; view = opener self.now.opening [] self.now.cells } }
+        requires { first ≡ record { table = self.now.table; view = opener self.now.opening [] self.now.cells self.now.actors } }
         ensures count { IfOk result (λ passes. length passes.items ≡ self.now.actors) }
         ensures new { IfOk result (λ passes. AreNew self.now passes.items) }
     {

@@ -1,5 +1,5 @@
 //! Taking and giving. Each call tries once.
-ghost use Rattle.std.specs.Prelude.{◌≡◌, ◌≢◌, ◌<◌, ◌++◌, List, IfOk, IfErr, OnOk};
+ghost use Rattle.std.specs.Prelude.{◌≡◌, ◌≢◌, ◌<◌, ◌≤◌, ◌++◌, List, IfOk, IfErr, OnOk};
 ghost use Rattle.entry_cells.specs.Entries.{entries_of, all_of};
 ghost use Rattle.entry_cells.specs.Views.{Holds, Grows, Adds, took, refused, gave, gave_journal};
 ghost use Rattle.entry_cells.specs.Passes.{IsPassOf};
@@ -14,13 +14,14 @@ impl<T: Kept<J>, J: Journal> Cells<T, J> {
     /// had not seen before touches a cell that it held.
     ///
     /// # Errors
-    /// `Held` where another pass holds the cell. The pass keeps this as its last refusal.
+    /// `Held` where another of the passes holds the cell. The pass keeps this as its last refusal.
     pub fn try_take(&self, pass: &mut Pass<T, J>, cell: u32) -> Result<Taken<T>, Held>
         requires pass { IsPassOf self.now pass.old }
         requires exists { cell < self.now.cells }
         requires lacks { Holds pass.old.view cell → ⊥ }
         ensures table { pass.new.table ≡ pass.old.table }
         ensures held { IfErr result (λ h. (pass.new.view ≡ refused pass.old.view cell h.holder) × (0 < h.holder) × (h.holder ≢ pass.old.view.actor)) }
+        ensures made { IfErr result (λ h. h.holder ≤ self.now.actors) }
         ensures taken { IfOk result (λ t. (t.cell ≡ cell) × (pass.new.view ≡ took pass.old.view cell pass.new.view.seen)) }
         ensures holds { OnOk result (Holds pass.new.view cell) }
         ensures grows { OnOk result (Grows T.touches self.now.cells self.now.opening pass.old.view pass.new.view.seen) }
@@ -61,12 +62,13 @@ impl<T: Kept<J>, J: Journal> Cells<T, J> {
     /// Takes the journal, in one atomic step.
     ///
     /// # Errors
-    /// `Held` where another pass holds it. The pass keeps this as its last refusal.
+    /// `Held` where another of the passes holds it. The pass keeps this as its last refusal.
     pub fn try_journal(&self, pass: &mut Pass<T, J>) -> Result<J, Held>
         requires pass { IsPassOf self.now pass.old }
         requires lacks { Holds pass.old.view self.now.cells → ⊥ }
         ensures table { pass.new.table ≡ pass.old.table }
         ensures held { IfErr result (λ h. (pass.new.view ≡ refused pass.old.view self.now.cells h.holder) × (0 < h.holder) × (h.holder ≢ pass.old.view.actor)) }
+        ensures made { IfErr result (λ h. h.holder ≤ self.now.actors) }
         ensures taken { OnOk result (pass.new.view ≡ took pass.old.view self.now.cells pass.new.view.seen) }
         ensures holds { OnOk result (Holds pass.new.view self.now.cells) }
         ensures grows { OnOk result (Grows T.touches self.now.cells self.now.opening pass.old.view pass.new.view.seen) }

@@ -118,8 +118,7 @@ fn count_written<R: Threads + Wait + Sync>(
     })
 }
 
-// Write k fails, for each k to the last write: a longer front is written for each. The scenario of a number has 4,162 writes, of
-// which the first 64 fail, and each 64th of the others, and the last.
+// Write k fails, for each k to the last write: a longer front is written for each than for the one before it.
 #[test]
 fn each_write(rt: HostRuntime) -> Result<(), Fail> {
     let alloc = rt.alloc();
@@ -134,12 +133,10 @@ fn each_write(rt: HostRuntime) -> Result<(), Fail> {
         assert_eq!(rt; status, 0, "{line}");
         let mut front = None;
         for write in 0..writes {
-            if write < 64 || write % 64 == 0 || write == writes - 1 {
-                let count = count_written(&rt, alloc, (line, text), write, whole.bytes())?;
-                assert!(rt; count > front, "{line} {write}");
-                assert!(rt; count < Some(whole.bytes().len()), "{line} {write}");
-                front = count;
-            }
+            let count = count_written(&rt, alloc, (line, text), write, whole.bytes())?;
+            assert!(rt; count > front, "{line} {write}");
+            assert!(rt; count < Some(whole.bytes().len()), "{line} {write}");
+            front = count;
         }
         let count = count_written(&rt, alloc, (line, text), writes, whole.bytes())?;
         assert_eq!(rt; count, Some(whole.bytes().len()), "{line}");

@@ -231,7 +231,7 @@ own_use guest vmpl npt paging m actor role is =
     ap (λ (r : Role). use_for guest (after m actor).contents r deed item outcome) is
     ∙ ap (λ (b : Bool). cond b (use_of deed item outcome) Untouched) (eq-eqb guest guest refl)
 
-own_belongs : (guest vmpl npt : ℕ) (paging : Paging) (m : State) (actor : ℕ) → (part_of m actor).role ≡ Cpu guest vmpl npt paging
+pub own_belongs : (guest vmpl npt : ℕ) (paging : Paging) (m : State) (actor : ℕ) → (part_of m actor).role ≡ Cpu guest vmpl npt paging
     → may_belong (event_of m actor).outcome (event_of m actor).deed (line_at (part_of m actor).script (part_of m actor).item).item ≡ true
 unfolding event_of
 own_belongs guest vmpl npt paging m actor is =

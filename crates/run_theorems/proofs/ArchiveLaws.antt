@@ -75,16 +75,16 @@ HasCounter None counter = Unit {0}
 HasCounter (Some entry) counter = entry.iv ≡ counter
 
 -- what was sealed for a guest has the counter of its context, which the attempt has locked
-record IsCounted (contexts : Contexts) (standing : Standing) (made : Computed) (owner : ℕ) : Type 0 where
+pub record IsCounted (contexts : Contexts) (standing : Standing) (made : Computed) (owner : ℕ) : Type 0 where
   locked : standing.context_lock ≡ Some owner
   counter : HasCounter made.entry (contexts owner).iv
 
 -- so of what an attempt of an item has made
-abbrev IsCountedAt : Contexts → Item → Standing → Type 0
+abbrev pub IsCountedAt : Contexts → Item → Standing → Type 0
 IsCountedAt contexts item standing = (made : Computed) (owner : ℕ) → standing.computed ≡ Some made → out_owner (sealing_in item) ≡ Some owner → IsCounted contexts standing made owner
 
 -- so of each actor
-abbrev AreCounted : State → Type 0
+abbrev pub AreCounted : State → Type 0
 AreCounted m = (actor : ℕ) → 0 < actor → IsCountedAt m.contents.contexts (line_at (part_of m actor).script (part_of m actor).item).item (part_of m actor).standing
 
 some_one : (x y : ℕ) → Some x ≡ Some y → x ≡ y
@@ -378,16 +378,16 @@ step_archives m actor past some counted below =
     (never_falls m actor)
 
 -- and each run: what it keeps, and what it has archived at its end
-record Seals (m : State) (past : Past) : Type 0 where
-  order : IsInOrder m
-  counted : AreCounted m
-  below : AreBelow past.archive (counter_of m)
+pub record Seals (m : State) (past : Past) : Type 0 where
+  pub order : IsInOrder m
+  pub counted : AreCounted m
+  pub below : AreBelow past.archive (counter_of m)
 
-record Ends (past later : Past) (m : State) : Type 0 where
-  seals : Seals m later
-  stays : AllStay past.archive later.archive
+pub record Ends (past later : Past) (m : State) : Type 0 where
+  pub seals : Seals m later
+  pub stays : AllStay past.archive later.archive
 
-run_seals : (m : State) (past : Past) (schedule : List ℕ) → IsDefinedFrom m schedule → Seals m past → Ends past (past_from m past schedule) (state_from m schedule)
+pub run_seals : (m : State) (past : Past) (schedule : List ℕ) → IsDefinedFrom m schedule → Seals m past → Ends past (past_from m past schedule) (state_from m schedule)
 unfolding state_from past_from IsDefinedFrom
 run_seals m past [] defined seals = record { seals = seals; stays = λ guest counter sealed is. is }
 run_seals m past (actor ∷ actors) defined seals =
@@ -401,7 +401,7 @@ run_seals m past (actor ∷ actors) defined seals =
     record { seals = rest.seals; stays = λ guest counter sealed is. rest.stays guest counter sealed (step.stays guest counter sealed is) }
 
 -- at the opening nothing is made, and nothing was sealed
-opening_seals : (c : Scenario) → IsSound c → Seals (opening c) empty_past
+pub opening_seals : (c : Scenario) → IsSound c → Seals (opening c) empty_past
 unfolding empty_past
 opening_seals c sound = record {
   order = opening_order c sound;

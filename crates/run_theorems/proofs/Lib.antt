@@ -3,6 +3,7 @@ pub mod CheckedReadLaws
 pub mod CounterLaws
 pub mod EventLaws
 pub mod LaunchLaws
+pub mod PremiseLaws
 pub mod RangeLaws
 pub mod RefusalLaws
 pub mod RunningLaws

@@ -1,5 +1,5 @@
 -- An event that is refused leaves the contents as they were.
-use Rattle.std.proofs.Common.{◌≡◌, ◌≢◌, ℕ, ◌-◌, true, false, Option, Some, unwrap_or, Result, Ok, Err, refl, sym, ap, ◌∙◌, None}
+use Rattle.std.proofs.Common.{◌≡◌, ◌≢◌, ℕ, ◌-◌, true, false, List, Option, Some, unwrap_or, Result, Ok, Err, refl, sym, ap, ◌∙◌, None}
 use Rattle.std.proofs.lemmas.Bool.{false≢true}
 use Rattle.snp_model.specs.declared.command.Command.{Command}
 use Rattle.snp_model.specs.declared.event.FwRefusal.{FwRefusal}
@@ -8,13 +8,22 @@ use Rattle.snp_model.specs.declared.event.Outcome.TheVariants as outcomes
 use Rattle.snp_model.specs.declared.item.Op.{Op}
 use Rattle.snp_model.specs.declared.item.Op.TheVariants as ops
 use Rattle.snp_model.specs.FirmwareStep.{context_taken, computed_move, commit_move}
-use Rattle.snp_model.specs.Locks.{view_of}
+use Rattle.snp_model.specs.declared.scenario.Scenario.{Scenario}
+use Rattle.snp_model.specs.Locks.{context_holder_of, holder_of, view_of}
 use Rattle.snp_model.specs.Moves.{Move, lock_move}
 use Rattle.snp_model.specs.Operations.{outcome_of}
-use Rattle.snp_model.specs.State.{PageLock, Contents, Computed, ActorPart, State, nothing_taken, part_of, IsUnfinished}
+use Rattle.snp_model.specs.Run.{IsDefined, state_after}
+use Rattle.snp_model.specs.Sound.{IsSound}
+use Rattle.snp_model.specs.State.{PageLock, Contents, Computed, ActorPart, Standing, State, nothing_taken, part_of, IsUnfinished}
 use Rattle.snp_model.specs.Step.{part_after, item_move, event_of, after, line_at}
+use Rattle.run_laws.specs.KeptLocks.{KeepsLocks, recontexted, relocked}
+use Rattle.run_laws.specs.OpenAttempts.{IsWalking}
+use Rattle.run_laws.proofs.ContextLaws.{context_holders_after}
+use Rattle.run_laws.proofs.HolderLaws.{holders_after}
+use Rattle.run_laws.proofs.LockedRuns.{part_walking}
 use Rattle.run_laws.proofs.RunLaws.{after_part, after_other, unfinished_at}
-use Rattle.run_theorems.specs.Refusals.{is_refusal}
+use Rattle.run_laws.proofs.SealedRuns.{run_order}
+use Rattle.run_theorems.specs.Refusals.{LetsGo, is_refusal}
 use Rattle.run_theorems.proofs.EventLaws.{OfPlain, OfCommand, every_event}
 
 -- a move that is refused leaves these contents
@@ -91,3 +100,23 @@ end_releases m actor outcome unfinished said =
 -- other actors stay
 pub others_stay : (m : State) (actor other : ℕ) → other - 1 ≢ actor - 1 → part_of (after m actor) other ≡ part_of m other
 others_stay m actor other apart = after_other m actor other apart
+
+-- so what it had locked is free
+lets_go : (m : State) (actor : ℕ) (outcome : Outcome) → KeepsLocks m → IsWalking m.frames (part_of m actor) → IsUnfinished m actor → (event_of m actor).outcome ≡ Some outcome → LetsGo m actor
+lets_go m actor outcome keeps walking unfinished said =
+    let nothing = end_releases m actor outcome unfinished said in
+    record {
+      frames = λ frame.
+          ap (λ (holder : ℕ → Option ℕ). holder frame) (holders_after m actor keeps walking unfinished.0)
+          ∙ ap (λ (standing : Standing). relocked actor standing.locks (holder_of m) frame) nothing;
+      contexts = λ guest.
+          ap (λ (holder : ℕ → Option ℕ). holder guest) (context_holders_after m actor keeps walking unfinished.0)
+          ∙ ap (λ (standing : Standing). recontexted actor standing.context_lock (context_holder_of m) guest) nothing;
+    }
+
+pub run_lets_go : (scenario : Scenario) (schedule : List ℕ) (actor : ℕ) (outcome : Outcome) → IsSound scenario → IsDefined scenario schedule
+    → IsUnfinished (state_after scenario schedule) actor → (event_of (state_after scenario schedule) actor).outcome ≡ Some outcome → LetsGo (state_after scenario schedule) actor
+run_lets_go scenario schedule actor outcome sound defined unfinished said =
+    let m = state_after scenario schedule in
+    let order = run_order scenario schedule sound defined in
+    lets_go m actor outcome order.locks (part_walking m actor order.walking unfinished) unfinished said

@@ -4,3 +4,4 @@ pub mod Launches
 pub mod Ranges
 pub mod Refusals
 pub mod TouchedLocks
+pub mod WholeArchives

@@ -22,7 +22,8 @@ use Rattle.run_laws.proofs.RoomLaws.{run_length}
 use Rattle.run_laws.proofs.RunLaws.{length_run}
 use Rattle.drill_gen.proofs.DrawnValid.{drawn_valid}
 use Rattle.snp_top.specs.declared.replay.Played.{Played}
-use Rattle.snp_top.specs.Drills.{IsDrilled, PlaysPicks, SaysDrill}
+use Rattle.snp_top.specs.declared.words.Drawn.TheVariants as draws
+use Rattle.snp_top.specs.Drills.{IsDrilled, PlaysPicks, SaysDrawn}
 use Rattle.snp_top.proofs.ReplayLaws.{state_guests}
 
 -- the scenario that a drill drew first
@@ -72,7 +73,7 @@ drill_played number c g left m n journal played starts drawn opens plays version
 
 -- what is told of it
 pub drill_told : (number : ℕ) (played : Played) (text : List ℕ) (Is : List ℕ → Type 0) → IsDrilled number played
-    → text ≡ drill_lines number played.journal.list (report_text played.version played.journal.list played.guests.items) → Is text → SaysDrill number Is
+    → text ≡ drill_lines number played.journal.list (report_text played.version played.journal.list played.guests.items) → Is text → SaysDrawn draws.Drill number Is
 unfolding report_of
 drill_told number played text Is drilled told holds =
     (drilled.schedule, drilled.picked, subst Is (told ∙ (λ i. drill_lines number (drilled.events i) (report_text (drilled.version i) (drilled.events i) (drilled.guests i)))) holds)

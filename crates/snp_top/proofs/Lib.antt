@@ -1,12 +1,15 @@
 pub mod BatchLaws
 pub mod CauseLaws
 pub mod CommandLaws
-pub mod DrawLaws
 pub mod DrillLaws
+pub mod ExitLaws
+pub mod KeptLaws
 pub mod MeasureLaws
 pub mod PickLaws
 pub mod Pieces
+pub mod ProgramLaws
 pub mod ReplayLaws
 pub mod ScheduleLaws
+pub mod StatusLaws
 pub mod WholeLaws
 pub mod WordLaws

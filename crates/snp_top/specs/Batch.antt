@@ -1,9 +1,8 @@
 -- What the program answers, and what it then has read and written. This project's own.
-use Rattle.std.specs.Prelude.{ℕ, ◌⊎◌, List, Option, IfSome, Result, Ok, Err}
+use Rattle.std.specs.Prelude.{◌≡◌, ℕ, ◌⊎◌, List, Option, IfSome, Result, Ok, Err}
 use Rattle.snp_model.specs.declared.reading.Quantity.{Quantity}
 use Rattle.snp_model.specs.declared.reading.Reason.{Reason}
 use Rattle.snp_model.specs.declared.scenario.Scenario.{Scenario}
-use Rattle.snp_model.specs.Ending.{report_of}
 use Rattle.snp_model.specs.Opening.{opening}
 use Rattle.snp_model.specs.Outside.{Adds, AddsPrefix, Rose}
 use Rattle.snp_model.specs.Reading.{Passes, Reads, Refuses, order_of}
@@ -11,7 +10,7 @@ use Rattle.snp_model.specs.Run.{IsDefined}
 use Rattle.snp_top.specs.declared.fault.CommandFault.{CommandFault}
 use Rattle.snp_top.specs.declared.fault.CommandFault.TheVariants as faults
 use Rattle.snp_top.specs.Faults.{error_line, limit_line, refusal_line, schedule_line}
-use Rattle.snp_top.specs.Replays.{HasReplayCause, ReadsSome, ReadsText, SaysOne}
+use Rattle.snp_top.specs.Replays.{ReadsSome, ReadsText, SaysOne}
 use Rattle.snp_top.specs.Schedule.{IsFirstBad}
 
 -- the scenario that the text says, if any, has this
@@ -41,10 +40,6 @@ abbrev pub SaysBadTurn : Option (List ℕ) → Option (List ℕ) → Option (Lis
 SaysBadTurn left now old written before after =
     (entry : ℕ) × (actor : ℕ) × ReadsText left now (SaysOne (λ c. IsFirstBad (opening c) (order_of c) entry actor)) × WritesLine old written before after (schedule_line entry actor)
 
--- the text was read to its end and says a scenario whose schedule makes a run, and a front of its report was written
-abbrev pub SaysCutReport : Option (List ℕ) → Option (List ℕ) → Option (List ℕ) → Option (List ℕ) → Type 0
-SaysCutReport left now old written = ReadsText left now (SaysOne (λ c. IsDefined c (order_of c) × AddsPrefix old written (report_of c (order_of c))))
-
 -- a report is written, or a front of it where the sink's count rose
 abbrev pub ReportsTo : Option (List ℕ) → Option (List ℕ) → ℕ → ℕ → List ℕ → Result (Unit {0}) CommandFault → Type 0
 ReportsTo old now before after text (Ok done) = Adds old now text
@@ -58,13 +53,15 @@ pub record Outside : Type 0 where
   pub written : Option (List ℕ)
   pub write_faults : ℕ
 
+-- nothing is written
+abbrev pub WritesNothing : Option (List ℕ) → Option (List ℕ) → ℕ → ℕ → Type 0
+WritesNothing old now before after = (now ≡ old) × (after ≡ before)
+
+-- a command ends with its error line, if it came to nothing: that of a failed write is empty
+abbrev pub Concludes : Result (Unit {0}) CommandFault → Option (List ℕ) → Option (List ℕ) → ℕ → ℕ → Type 0
+Concludes (Ok done) old now before after = WritesNothing old now before after
+Concludes (Err fault) old now before after = WritesLine old now before after (error_line fault)
+
 -- an error line is written between two moments
 abbrev pub Wrote : Outside → Outside → List ℕ → Type 0
 Wrote before now line = WritesLine before.written now.written before.write_faults now.write_faults line
-
--- what the outcome of `replay` tells, of the outside before and after
-abbrev pub Explains : Result (Unit {0}) CommandFault → Outside → Outside → Type 0
-Explains (Ok done) before now = ReadsText before.left now.left (SaysOne (λ c. IsDefined c (order_of c) × Adds before.written now.written (report_of c (order_of c))))
-Explains (Err faults.Write) before now = Rose before.write_faults now.write_faults × SaysCutReport before.left now.left before.written now.written
-Explains (Err fault) before now =
-    HasReplayCause before.left now.left before.read_faults now.read_faults fault × Wrote before now (error_line fault)

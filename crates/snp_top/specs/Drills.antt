@@ -19,37 +19,36 @@ use Rattle.snp_top.specs.declared.drilling.Sort.{Sort}
 use Rattle.snp_top.specs.declared.drilling.Sort.TheVariants as sorts
 use Rattle.snp_top.specs.declared.drilling.Tally.{Tally}
 use Rattle.snp_top.specs.declared.replay.Played.{Played}
-use Rattle.snp_top.specs.Batch.{WritesLine}
-use Rattle.snp_top.specs.Faults.{error_line}
+use Rattle.snp_top.specs.declared.words.Drawn.{Drawn}
+use Rattle.snp_top.specs.declared.words.Drawn.TheVariants as draws
+use Rattle.snp_top.specs.Batch.{WritesNothing}
 use Rattle.snp_top.specs.Schedule.{Plays, PlaysOn}
 
--- this holds of the text of the scenario of a number
-abbrev pub SaysScenario : ℕ → (List ℕ → Type 0) → Type 0
-SaysScenario number Is = Is (scenario_text (generated number))
-
--- this holds of the six lines that tell of the drill of a number, under the schedule that is picked
-abbrev pub SaysDrill : ℕ → (List ℕ → Type 0) → Type 0
-SaysDrill number Is = (schedule : List ℕ) × IsPicked number schedule × Is (drill_text number schedule)
+-- this holds of what a number determines: of the text of its scenario, or of the six lines that tell of its drill, under the schedule
+-- that is picked
+abbrev pub SaysDrawn : Drawn → ℕ → (List ℕ → Type 0) → Type 0
+SaysDrawn draws.Gen number Is = Is (scenario_text (generated number))
+SaysDrawn draws.Drill number Is = (schedule : List ℕ) × IsPicked number schedule × Is (drill_text number schedule)
 
 -- the text of the scenario of a number is written, or a front of it
 abbrev pub WritesScenario : ℕ → Option (List ℕ) → Option (List ℕ) → Type 0
-WritesScenario number old now = SaysScenario number (Adds old now)
+WritesScenario number old now = SaysDrawn draws.Gen number (Adds old now)
 
 abbrev pub CutsScenario : ℕ → Option (List ℕ) → Option (List ℕ) → Type 0
-CutsScenario number old now = SaysScenario number (AddsPrefix old now)
+CutsScenario number old now = SaysDrawn draws.Gen number (AddsPrefix old now)
 
 -- the lines of the drill of a number are written, or a front of them
 abbrev pub WritesDrill : ℕ → Option (List ℕ) → Option (List ℕ) → Type 0
-WritesDrill number old now = SaysDrill number (Adds old now)
+WritesDrill number old now = SaysDrawn draws.Drill number (Adds old now)
 
 abbrev pub CutsDrill : ℕ → Option (List ℕ) → Option (List ℕ) → Type 0
-CutsDrill number old now = SaysDrill number (AddsPrefix old now)
+CutsDrill number old now = SaysDrawn draws.Drill number (AddsPrefix old now)
 
 -- what came of writing a text that a number determines; want of memory is free
 abbrev pub DrawsOut : ((List ℕ → Type 0) → Type 0) → Option (List ℕ) → Option (List ℕ) → ℕ → ℕ → Result (Unit {0}) CommandFault → Type 0
 DrawsOut Says old now before after (Ok done) = Says (Adds old now)
 DrawsOut Says old now before after (Err faults.Write) = Says (AddsPrefix old now) × Rose before after
-DrawsOut Says old now before after (Err faults.Memory) = WritesLine old now before after (error_line faults.Memory)
+DrawsOut Says old now before after (Err faults.Memory) = WritesNothing old now before after
 DrawsOut Says old now before after (Err fault) = ⊥
 
 -- a schedule that a generator picks from a state on was played, and the journal is its events

@@ -1,5 +1,5 @@
 -- What a measurement answers, and what is then read and written. This project's own.
-use Rattle.std.specs.Prelude.{ℕ, List, Option, Result, Ok, Err}
+use Rattle.std.specs.Prelude.{ℕ, List, Option}
 use Rattle.snp_model.specs.declared.reading.Reason.{Reason}
 use Rattle.snp_model.specs.declared.reading.Quantity.TheVariants.{Bytes}
 use Rattle.snp_model.specs.Limits.{most}
@@ -9,8 +9,8 @@ use Rattle.snp_model.specs.Outside.{Adds, AddsPrefix, Rose}
 use Rattle.snp_model.specs.Reading.{IsTooLong}
 use Rattle.snp_top.specs.declared.fault.CommandFault.{CommandFault}
 use Rattle.snp_top.specs.declared.fault.CommandFault.TheVariants as faults
-use Rattle.snp_top.specs.Batch.{Outside, WritesLine, Wrote}
-use Rattle.snp_top.specs.Faults.{error_line, refusal_line}
+use Rattle.snp_top.specs.Batch.{WritesLine}
+use Rattle.snp_top.specs.Faults.{refusal_line}
 use Rattle.snp_top.specs.Input.{TakesAtMost}
 use Rattle.snp_top.specs.Replays.{ReadsSome, ReadsText}
 
@@ -38,10 +38,3 @@ HasMeasureCause left now before after (faults.Limit quantity count) = ReadsSome 
 HasMeasureCause left now before after faults.Read = TakesAtMost (most Bytes) left now × Rose before after
 HasMeasureCause left now before after faults.Memory = Unit {0}
 HasMeasureCause left now before after fault = ⊥
-
--- what the outcome of `measure` tells, of the outside before and after
-abbrev pub ExplainsMeasure : Result (Unit {0}) CommandFault → Outside → Outside → Type 0
-ExplainsMeasure (Ok done) before now = WritesDigest before.left now.left before.written now.written
-ExplainsMeasure (Err faults.Write) before now = Rose before.write_faults now.write_faults × SaysCutDigest before.left now.left before.written now.written
-ExplainsMeasure (Err fault) before now =
-    HasMeasureCause before.left now.left before.read_faults now.read_faults fault × Wrote before now (error_line fault)

@@ -1,5 +1,5 @@
 -- What the program reports of a run, whether the scenario's order lines say its schedule or its threads make it as they go. This project's own.
-use Rattle.std.specs.Prelude.{◌≡◌, ℕ, Bool, true, false, ◌||◌, List, codes, Option, None, Some, Result, Ok, Err}
+use Rattle.std.specs.Prelude.{◌≡◌, ℕ, Bool, true, false, ◌||◌, List, codes, Option, Some, Result, Ok, Err}
 use Rattle.snp_model.specs.declared.scenario.Scenario.{Scenario}
 use Rattle.snp_model.specs.CommandLine.{are_words, is_alone, is_replay}
 use Rattle.snp_model.specs.Ending.{report_of}
@@ -12,10 +12,8 @@ use Rattle.snp_model.specs.Run.{IsDefined, IsOrdered, run_of, state_after}
 use Rattle.snp_model.specs.State.{IsUnfinished}
 use Rattle.snp_top.specs.declared.fault.CommandFault.{CommandFault}
 use Rattle.snp_top.specs.declared.fault.CommandFault.TheVariants as faults
-use Rattle.snp_top.specs.Batch.{Outside, WritesLine, Wrote}
-use Rattle.snp_top.specs.Faults.{error_line}
+use Rattle.snp_top.specs.Batch.{WritesNothing}
 use Rattle.snp_top.specs.Fleets.{IsWhole, Kept}
-use Rattle.snp_top.specs.Replays.{HasReplayCause, ReadsText, SaysOne}
 use Rattle.snp_top.specs.Words.{takes_text}
 
 -- whether the words are `run` alone
@@ -77,18 +75,10 @@ OnCut result P = Unit {0}
 abbrev pub RunsOut : Scenario → Option (List ℕ) → Option (List ℕ) → ℕ → ℕ → Result (Unit {0}) CommandFault → Type 0
 RunsOut c old now before after (Ok done) = IsReported true c (Adds old now)
 RunsOut c old now before after (Err faults.Write) = IsReported true c (AddsPrefix old now) × Rose before after
-RunsOut c old now before after (Err faults.Memory) = WritesLine old now before after (error_line faults.Memory)
+RunsOut c old now before after (Err faults.Memory) = WritesNothing old now before after
 RunsOut c old now before after (Err fault) = ⊥
 
 -- no entry of a schedule is at fault
 abbrev pub IsNoTurn : CommandFault → Type 0
 IsNoTurn (faults.Schedule turn) = ⊥
 IsNoTurn fault = Unit {0}
-
--- what the outcome of `run` tells, of the outside before and after
-abbrev pub ExplainsRun : Result (Unit {0}) CommandFault → Outside → Outside → Type 0
-ExplainsRun (Ok done) before now = ReadsText before.left now.left (SaysOne (λ c. IsReported true c (Adds before.written now.written)))
-ExplainsRun (Err faults.Write) before now =
-    Rose before.write_faults now.write_faults × ReadsText before.left now.left (SaysOne (λ c. IsReported true c (AddsPrefix before.written now.written)))
-ExplainsRun (Err fault) before now =
-    IsNoTurn fault × HasReplayCause before.left now.left before.read_faults now.read_faults fault × Wrote before now (error_line fault)

@@ -2,14 +2,14 @@
 ghost use Rattle.std.specs.Prelude.{◌≡◌, ◌+◌, ◌^◌, ◌<◌, ◌≤◌, ◌++◌, length, take, decimal, IfOk};
 ghost use Rattle.snp_model.specs.Drill.{count_where, drill_lines, is_some_where};
 ghost use Rattle.snp_model.specs.Report.{line, report_text};
-ghost use Rattle.snp_top.specs.Drills.{DrawsOut, IsDrilled, SaysDrill, SaysScenario, is_of, tally_text};
+ghost use Rattle.snp_top.specs.Drills.{DrawsOut, IsDrilled, SaysDrawn, is_of, tally_text};
 
-use crate::batch::refuse;
 use crate::fault::CommandFault;
 use crate::hashing::hash_report;
 use crate::picking::play_picks;
 use crate::replay::{Played, take_guests};
 use crate::schedule::empty_journal;
+use crate::words::Drawn;
 use drill_gen::Drill;
 use machine_core::Machine;
 use outside_port::{Sink, write_all};
@@ -20,9 +20,9 @@ use script_text::pen::{put, put_named};
 use snp_model::Outcome;
 use std::alloc::{AllocError, Global};
 
-/// Carries `gen` out: writes the scenario of a number, or an error line for want of memory.
+/// Carries `gen` out: writes the scenario of a number. For want of memory nothing is written.
 pub fn carry_out_gen<K: Sink>(alloc: Global, number: u64, sink: &mut K) -> Result<(), CommandFault>
-    ensures answer { DrawsOut (SaysScenario number) (K.written sink.old) (K.written sink.new) (K.faults sink.old) (K.faults sink.new) result }
+    ensures answer { DrawsOut (SaysDrawn Drawn.Gen number) (K.written sink.old) (K.written sink.new) (K.faults sink.old) (K.faults sink.new) result }
     ensures later { K.faults sink.old ≤ K.faults sink.new }
 {
     match Drill::from_number(number).scenario(alloc) {
@@ -30,22 +30,23 @@ pub fn carry_out_gen<K: Sink>(alloc: Global, number: u64, sink: &mut K) -> Resul
             Ok(()) => Ok(()),
             Err(_) => Err(CommandFault::Write),
         },
-        Err(_) => Err(refuse(CommandFault::Memory, sink)),
+        Err(_) => Err(CommandFault::Memory),
     }
 }
 
-/// Carries `drill` out: runs the drill of a number and writes the lines that tell of it, or an error line for want of memory.
+/// Carries `drill` out: runs the drill of a number and writes the lines that tell of it. For want of memory nothing is
+/// written.
 pub fn carry_out_drill<K: Sink>(
     alloc: Global,
     number: u64,
     sink: &mut K,
 ) -> Result<(), CommandFault>
-    ensures answer { DrawsOut (SaysDrill number) (K.written sink.old) (K.written sink.new) (K.faults sink.old) (K.faults sink.new) result }
+    ensures answer { DrawsOut (SaysDrawn Drawn.Drill number) (K.written sink.old) (K.written sink.new) (K.faults sink.old) (K.faults sink.new) result }
     ensures later { K.faults sink.old ≤ K.faults sink.new }
 {
     match run_drill(alloc, number) {
         Ok(played) => tell(number, &played, sink),
-        Err(_) => Err(refuse(CommandFault::Memory, sink)),
+        Err(_) => Err(CommandFault::Memory),
     }
 }
 
@@ -75,7 +76,7 @@ fn tell<K: Sink>(number: u64, played: &Played, sink: &mut K) -> Result<(), Comma
     requires drilled { IsDrilled number played.now }
     requires version { (1 ≤ played.now.version) × (played.now.version ≤ 2) }
     requires short { length played.now.journal.list < 2 ^ 32 }
-    ensures answer { DrawsOut (SaysDrill number) (K.written sink.old) (K.written sink.new) (K.faults sink.old) (K.faults sink.new) result }
+    ensures answer { DrawsOut (SaysDrawn Drawn.Drill number) (K.written sink.old) (K.written sink.new) (K.faults sink.old) (K.faults sink.new) result }
     ensures later { K.faults sink.old ≤ K.faults sink.new }
 {
     let mut lines = [0; 256];

@@ -24,4 +24,4 @@ mod run_tests;
 pub mod schedule;
 #[cfg(test)]
 mod tests;
-mod words;
+pub mod words;

@@ -1,13 +1,14 @@
 //! A measurement, from the bytes of a measure text to the line that tells the digest of its pages.
-ghost use Rattle.std.specs.Prelude.{◌≡◌, ◌+◌, ◌≤◌, IfOk, IfErr};
+ghost use Rattle.std.specs.Prelude.{◌≡◌, ◌+◌, ◌≤◌, Some, IfOk, IfErr};
 ghost use Rattle.snp_model.specs.Limits.{most};
+ghost use Rattle.snp_top.specs.Exits.{ComesTo};
 ghost use Rattle.snp_top.specs.Input.{TakesAtMost};
-ghost use Rattle.snp_top.specs.Measures.{ExplainsMeasure, HasMeasureCause, SaysDigest};
+ghost use Rattle.snp_top.specs.Measures.{HasMeasureCause, SaysDigest};
 ghost use Rattle.snp_top.specs.Replays.{ReadsText};
 
-use crate::batch::refuse;
 use crate::fault::CommandFault;
 use crate::input::read_text;
+use crate::words::Asked;
 use launch_digest::Digest;
 use measure_text::measure;
 use outside_port::{Sink, Source};
@@ -15,13 +16,14 @@ use report_text::write_digest;
 use snp_model::Quantity;
 use std::alloc::Global;
 
-/// Carries `measure` out: reads a measure text, and writes the line that tells its digest, or an error line.
+/// Carries `measure` out: reads a measure text, and writes the line that tells its digest. Where there is
+/// none, nothing is written.
 pub fn carry_out_measure<S: Source, K: Sink>(
     alloc: Global,
     source: &mut S,
     sink: &mut K,
 ) -> Result<(), CommandFault>
-    ensures explained { ExplainsMeasure result
+    ensures came { ComesTo (Some Asked.Measure) result
         (record { left = S.left source.old; read_faults = S.faults source.old; written = K.written sink.old; write_faults = K.faults sink.old })
         (record { left = S.left source.new; read_faults = S.faults source.new; written = K.written sink.new; write_faults = K.faults sink.new }) }
     ensures taken { TakesAtMost (most Quantity.Bytes + 1) (S.left source.old) (S.left source.new) }
@@ -32,7 +34,7 @@ pub fn carry_out_measure<S: Source, K: Sink>(
             Ok(()) => Ok(()),
             Err(_) => Err(CommandFault::Write),
         },
-        Err(fault) => Err(refuse(fault, sink)),
+        Err(fault) => Err(fault),
     }
 }
 

@@ -6,7 +6,6 @@ ghost use Rattle.snp_model.specs.Reading.{Valid};
 ghost use Rattle.snp_top.specs.Fleets.{ArePasses, IsWhole, KeepsWhole};
 ghost use Rattle.snp_top.specs.Runs.{IsKeptRun, OnCut, ReportsKept, RunsOut};
 
-use crate::batch::refuse;
 use crate::fault::CommandFault;
 use crate::fleet::{Ended, Fleet};
 use crate::replay::take_guests;
@@ -20,7 +19,7 @@ use std::alloc::{AllocError, Global};
 use std::sync::Wait;
 use std::thread::{self, Threads};
 
-/// Runs the actors of a scenario to their ends and writes the report, or an error line for want of memory. Where the scenario
+/// Runs the actors of a scenario to their ends and writes the report; for want of memory nothing is written. Where the scenario
 /// has an actor, the report is that of the run which the fleet keeps.
 pub fn run<K: Sink, G: Gate + Sync, F: Fleet, R: Threads + Wait + Sync>(
     rt: &R,
@@ -39,12 +38,12 @@ pub fn run<K: Sink, G: Gate + Sync, F: Fleet, R: Threads + Wait + Sync>(
     if scenario.actors.is_empty() {
         return match without_actors(alloc, scenario) {
             Ok(ended) => report_ended(scenario, &ended, sink),
-            Err(_) => Err(refuse(CommandFault::Memory, sink)),
+            Err(_) => Err(CommandFault::Memory),
         };
     }
     match by_workers(rt, alloc, scenario, gate, fleet) {
         Ok(()) => report_kept(scenario, fleet, sink),
-        Err(_) => Err(refuse(CommandFault::Memory, sink)),
+        Err(_) => Err(CommandFault::Memory),
     }
 }
 

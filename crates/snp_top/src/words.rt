@@ -1,72 +1,78 @@
 //! What the words after the program's name ask for.
-ghost use Rattle.std.specs.Prelude.{◌≡◌, bytes_eq, map, string_bytes};
-ghost use Rattle.snp_model.specs.CommandLine.{is_alone, is_measure, is_replay, number_behind};
+ghost use Rattle.std.specs.Prelude.{◌≡◌, ◌<◌, bytes_eq, length, map, string_bytes};
 ghost use Rattle.snp_model.specs.Lines.{decimal_of};
-ghost use Rattle.snp_top.specs.Words.{IsAsked};
+ghost use Rattle.snp_top.specs.Words.{asks_run, command_of, fits, numbered};
 
 use script_text::number::read_decimal;
 
-/// A command that needs no threads.
+/// What the words ask for: a command.
 #[derive(Clone, Copy, Debug, PartialEq, Eq)]
 pub enum Asked {
     /// To run the schedule of a scenario, and report the run.
     Replay,
+    /// To have threads run a scenario, and report the run that comes of it.
+    Run,
     /// To tell the launch digest of pages.
     Measure,
-    /// To write the scenario of a number.
-    Gen(u64),
-    /// To run the drill of a number, and tell what it came to.
-    Drill(u64),
+    /// To write what a number determines; no text is read.
+    Drawn { number: u64, what: Drawn },
+}
+
+/// What a number determines.
+#[derive(Clone, Copy, Debug, PartialEq, Eq)]
+pub enum Drawn {
+    /// Its scenario.
+    Gen,
+    /// Its drill, and the lines that tell what that came to.
+    Drill,
 }
 
 /// The command that the words ask for, if they are those of one.
+#[tactic(auto, unfolding(crate::specs::Words::forms, crate::specs::Words::first_of))]
 pub fn read_words(words: &Vec<String>) -> Option<Asked>
-    ensures { IsAsked (map string_bytes words.now.items) result }
+    ensures { result ≡ command_of (map string_bytes words.now.items) }
 {
-    if is_replay(words) {
+    if fits(words, b"replay", 1) {
         return Some(Asked::Replay);
     }
-    if is_measure(words) {
+    if fits(words, b"run", 1) {
+        return Some(Asked::Run);
+    }
+    if fits(words, b"measure", 1) {
         return Some(Asked::Measure);
     }
-    if let Some(number) = number_behind(b"gen", words) {
-        return Some(Asked::Gen(number));
+    if fits(words, b"gen", 2) {
+        return numbered(words, Drawn::Gen);
     }
-    match number_behind(b"drill", words) {
-        Some(number) => Some(Asked::Drill(number)),
+    if fits(words, b"drill", 2) {
+        return numbered(words, Drawn::Drill);
+    }
+    None
+}
+
+/// Whether this is `run`, which needs threads.
+pub fn is_run(asked: Option<Asked>) -> bool
+    ensures { result ≡ asks_run asked }
+{
+    matches!(asked, Some(Asked::Run))
+}
+
+// Whether the first word is this name, and there are this many words.
+fn fits(words: &Vec<String>, name: &[u8], count: usize) -> bool
+    requires { 0 < count }
+    ensures { result ≡ fits name.now count (map string_bytes words.now.items) }
+{
+    words.len() == count && is_word(words[0].as_bytes(), name)
+}
+
+// What the number that the second word spells determines, if it spells one.
+fn numbered(words: &Vec<String>, what: Drawn) -> Option<Asked>
+    requires { length words.now.items ≡ 2 }
+    ensures { result ≡ numbered what (map string_bytes words.now.items) }
+{
+    match decimal_of(words[1].as_bytes()) {
+        Some(number) => Some(Asked::Drawn { number, what }),
         None => None,
-    }
-}
-
-/// Whether the words are this one alone.
-pub fn is_alone(name: &[u8], words: &Vec<String>) -> bool
-    ensures { result ≡ is_alone name.now (map string_bytes words.now.items) }
-{
-    words.len() == 1 && is_word(words[0].as_bytes(), name)
-}
-
-// Whether the words are `replay` alone.
-fn is_replay(words: &Vec<String>) -> bool
-    ensures { result ≡ is_replay (map string_bytes words.now.items) }
-{
-    is_alone(b"replay", words)
-}
-
-// Whether the words are `measure` alone.
-fn is_measure(words: &Vec<String>) -> bool
-    ensures { result ≡ is_measure (map string_bytes words.now.items) }
-{
-    is_alone(b"measure", words)
-}
-
-// The number that follows this name, where they are the two words.
-fn number_behind(name: &[u8], words: &Vec<String>) -> Option<u64>
-    ensures { result ≡ number_behind name.now (map string_bytes words.now.items) }
-{
-    if words.len() == 2 && is_word(words[0].as_bytes(), name) {
-        decimal_of(words[1].as_bytes())
-    } else {
-        None
     }
 }
 

@@ -9,14 +9,14 @@ use Rattle.snp_model.proofs.ReadingLaws.{some_part}
 use Rattle.text_laws.specs.Cuts.{reason_of_rest, reason_of}
 
 -- the parts of two texts one behind the other: the last part of the first and the first part of the second are one
-record Joined (front rest : List ℕ) : Type 0 where
-  lines : List (List ℕ)
-  tail : List ℕ
-  next : List ℕ
-  others : List (List ℕ)
-  of_front : parts_at 10 front ≡ lines ++ tail ∷ []
-  of_rest : parts_at 10 rest ≡ next ∷ others
-  of_both : parts_at 10 (front ++ rest) ≡ lines ++ (tail ++ next) ∷ others
+pub record Joined (front rest : List ℕ) : Type 0 where
+  pub lines : List (List ℕ)
+  pub tail : List ℕ
+  pub next : List ℕ
+  pub others : List (List ℕ)
+  pub of_front : parts_at 10 front ≡ lines ++ tail ∷ []
+  pub of_rest : parts_at 10 rest ≡ next ∷ others
+  pub of_both : parts_at 10 (front ++ rest) ≡ lines ++ (tail ++ next) ∷ others
 
 -- so with a line feed before them
 joined_feed : (byte : ℕ) (bytes rest : List ℕ) → (byte == 10) ≡ true → Joined bytes rest → Joined (byte ∷ bytes) rest
@@ -56,7 +56,7 @@ joined_one : (byte : ℕ) (bytes rest : List ℕ) (test : Bool) → (byte == 10)
 joined_one byte bytes rest true is j = joined_feed byte bytes rest is j
 joined_one byte bytes rest false is j = joined_by byte bytes rest j.tail j.next j.lines j.others is j.of_front j.of_rest j.of_both
 
-joined : (front rest : List ℕ) → Joined front rest
+pub joined : (front rest : List ℕ) → Joined front rest
 joined [] rest =
     let s = some_part 10 rest in
     record { lines = []; tail = []; next = s.part; others = s.parts; of_front = refl; of_rest = s.is; of_both = s.is }
@@ -76,13 +76,13 @@ open_where (reading c) next line fits = tt
 open_where (closed c) next line fits = absurd (cc)
 
 -- lists that differ in their heads or in what is behind
-heads : (x y : List ℕ) (xs ys : List (List ℕ)) → x ∷ xs ≡ y ∷ ys → x ≡ y
+pub heads : (x y : List ℕ) (xs ys : List (List ℕ)) → x ∷ xs ≡ y ∷ ys → x ≡ y
 heads x y xs ys is = cc
 
-tails : (x y : List ℕ) (xs ys : List (List ℕ)) → x ∷ xs ≡ y ∷ ys → xs ≡ ys
+pub tails : (x y : List ℕ) (xs ys : List (List ℕ)) → x ∷ xs ≡ y ∷ ys → xs ≡ ys
 tails x y xs ys is = cc
 
-never_empty : (xs : List (List ℕ)) (x : List ℕ) (ys : List (List ℕ)) → xs ++ x ∷ ys ≡ [] → ⊥
+pub never_empty : (xs : List (List ℕ)) (x : List ℕ) (ys : List (List ℕ)) → xs ++ x ∷ ys ≡ [] → ⊥
 never_empty [] x ys is = cc
 never_empty (y ∷ xs) x ys is = cc
 

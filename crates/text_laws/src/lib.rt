@@ -2,5 +2,7 @@
 #![tactic(auto)]
 
 mod cut;
+mod order;
 
 pub use cut::cut_texts;
+pub use order::printed_orders;

@@ -17,7 +17,7 @@ give_journal-requires-clause-legal c = inside_one c.enter-added.result _ _ _ _ _
 pub returns-clause-pass : goal.returns-clause-pass
 returns-clause-pass c = let only = c.requires.pass in let taken = c.in-Ok.ensures.taken in let given = c.give_journal.ensures.given in
     let held = held_as_before _ _ c.args.taken.now.cell c.args.cells.now.cells (ap (λ p. p.view.held) given ∙ ap (λ v. set v.held c.args.cells.now.cells false) taken) c.requires.exists.0 only.1 only.2 in (
-      (ap (λ p. p.table) given ∙ c.try_journal.ensures.table ∙ only.0.0, ap (λ p. p.view.opening) given ∙ ap (λ v. v.opening) taken ∙ only.0.1),
+      (ap (λ p. p.table) given ∙ c.try_journal.ensures.table ∙ only.0.0, ap (λ p. p.view.opening) given ∙ ap (λ v. v.opening) taken ∙ only.0.1, ap (λ p. p.view.actors) given ∙ ap (λ v. v.actors) taken ∙ only.0.2),
       held.0,
       held.1,
       ap (λ p. p.view.actor) given ∙ ap (λ v. v.actor) taken ∙ only.3,

@@ -1,5 +1,7 @@
-use Rattle.snp_top.proofs.MeasureLaws.{measure_refused}
+use Rattle.std.proofs.Common.{Some, refl}
+use Rattle.snp_top.specs.declared.words.Asked.TheVariants as asks
+use Rattle.snp_top.proofs.ExitLaws.{stops_there}
 use Rattle.snp_top.proofs.measuring.carry_out_measure.Goals as goal
 
-pub returns-in-Err-clause-explained : goal.returns-in-Err-clause-explained
-returns-in-Err-clause-explained g c = measure_refused c.in-Err.fault c.refuse.result _ _ c.refuse.ensures.same c.in-Err.ensures.cause c.refuse.ensures.line
+pub returns-in-Err-clause-came : goal.returns-in-Err-clause-came
+returns-in-Err-clause-came g c = stops_there (Some asks.Measure) c.in-Err.fault _ _ c.in-Err.ensures.cause (refl, refl)

@@ -1,8 +1,11 @@
-use Rattle.snp_top.proofs.CommandLaws.{refused_explained, run_explained}
+use Rattle.std.proofs.Common.{Some, refl}
+use Rattle.snp_top.specs.declared.words.Asked.TheVariants as asks
+use Rattle.snp_top.proofs.CommandLaws.{comes_run}
+use Rattle.snp_top.proofs.ExitLaws.{stops_there}
 use Rattle.snp_top.proofs.program.carry_out_run.Goals as goal
 
-pub returns-in-Ok-clause-explained : goal.returns-in-Ok-clause-explained
-returns-in-Ok-clause-explained g c = run_explained c.run.result c.in-Ok.scenario _ _ c.in-Ok.ensures.said c.run.ensures.answer
+pub returns-in-Ok-clause-came : goal.returns-in-Ok-clause-came
+returns-in-Ok-clause-came g c = comes_run c.run.result c.in-Ok.scenario _ _ c.in-Ok.ensures.said c.run.ensures.answer
 
-pub returns-in-Err-clause-explained : goal.returns-in-Err-clause-explained
-returns-in-Err-clause-explained g c = refused_explained c.in-Err.fault c.refuse.result _ _ c.refuse.ensures.same c.in-Err.ensures.no_turn c.in-Err.ensures.cause c.refuse.ensures.line
+pub returns-in-Err-clause-came : goal.returns-in-Err-clause-came
+returns-in-Err-clause-came g c = stops_there (Some asks.Run) c.in-Err.fault _ _ (c.in-Err.ensures.no_turn, c.in-Err.ensures.cause) (refl, refl)

@@ -1,119 +1,56 @@
-use Rattle.std.proofs.Common.{List, ℕ, map, string_bytes, sym, ◌∙◌, inl, inr}
-use Rattle.snp_model.specs.CommandLine.{is_replay}
+use Rattle.std.proofs.Common.{ℕ, List, map, string_bytes, ◌≡◌, true, false, Option, Some, refl, sym, ap, ◌∙◌}
+use Rattle.std.proofs.lemmas.Bool.{false≢true}
+use Rattle.snp_top.specs.declared.words.Asked.{Asked}
+use Rattle.snp_top.specs.declared.words.Asked.TheVariants as asks
+use Rattle.snp_top.specs.Batch.{Outside}
+use Rattle.snp_top.specs.Exits.{Exits}
 use Rattle.snp_top.specs.Runs.{is_run}
-use Rattle.snp_top.specs.Words.{takes_text}
-use Rattle.snp_top.proofs.BatchLaws.{cut_told, ok_told}
-use Rattle.snp_top.proofs.CommandLaws.{asked_by, batch_cut, batch_reported, cut_by, or_other, run_told}
-use Rattle.snp_top.proofs.WordLaws.{run_or_drawn, run_or_measure}
+use Rattle.snp_top.specs.Words.{asks_run, asks_text, command_of, without_threads}
+use Rattle.snp_top.proofs.ExitLaws.{concluded}
+use Rattle.snp_top.proofs.StatusLaws.{done_read, done_reported, exits_as, fleet_done, fleet_stopped}
+use Rattle.snp_top.proofs.WordLaws.{reads_not, reads_scenario_asked, reads_text_asked, run_alone, run_is, run_not}
 use Rattle.snp_top.proofs.program.snp_main.Goals as goal
 
-pub returns-then-is_run-clause-reported : goal.returns-then-is_run-clause-reported
-returns-then-is_run-clause-reported g c = λ zero reads.
-    asked_by _ _ _ (sym c.is_run.ensures ∙ c.if-is_run.true) ((run_told c.carry_out_run.result c.exit_status.result _ _ c.exit_status.ensures c.carry_out_run.ensures.explained).reported zero)
-
-pub returns-then-is_run-clause-fleet_keeps : goal.returns-then-is_run-clause-fleet_keeps
-returns-then-is_run-clause-fleet_keeps g c = λ zero asked. ok_told c.carry_out_run.result c.exit_status.result _ c.exit_status.ensures c.carry_out_run.ensures.fleet_keeps zero
-
-pub returns-then-is_run-clause-fleet_cut : goal.returns-then-is_run-clause-fleet_cut
-returns-then-is_run-clause-fleet_cut g c = λ six asked. cut_told c.carry_out_run.result c.exit_status.result _ c.exit_status.ensures c.carry_out_run.ensures.fleet_cut six
-
-pub returns-then-is_run-clause-digest_written : goal.returns-then-is_run-clause-digest_written
-returns-then-is_run-clause-digest_written g c = λ zero measures. absurd (run_or_measure (map string_bytes c.args.words.now.items) (sym c.is_run.ensures ∙ c.if-is_run.true) measures)
-
-pub returns-then-is_run-clause-read_line : goal.returns-then-is_run-clause-read_line
-returns-then-is_run-clause-read_line g c = (run_told c.carry_out_run.result c.exit_status.result _ _ c.exit_status.ensures c.carry_out_run.ensures.explained).read_line
-
-pub returns-then-is_run-clause-scenario_refused : goal.returns-then-is_run-clause-scenario_refused
-returns-then-is_run-clause-scenario_refused g c = λ three reads. (run_told c.carry_out_run.result c.exit_status.result _ _ c.exit_status.ensures c.carry_out_run.ensures.explained).refused three
-
-pub returns-then-is_run-clause-scenario_refused_where : goal.returns-then-is_run-clause-scenario_refused_where
-returns-then-is_run-clause-scenario_refused_where g c = λ text line reason fits left refuses.
-    (run_told c.carry_out_run.result c.exit_status.result _ _ c.exit_status.ensures c.carry_out_run.ensures.explained).refused_where text line reason left refuses
-
-pub returns-then-is_run-clause-pages_refused : goal.returns-then-is_run-clause-pages_refused
-returns-then-is_run-clause-pages_refused g c = λ three measures. absurd (run_or_measure (map string_bytes c.args.words.now.items) (sym c.is_run.ensures ∙ c.if-is_run.true) measures)
-
-pub returns-then-is_run-clause-pages_refused_where : goal.returns-then-is_run-clause-pages_refused_where
-returns-then-is_run-clause-pages_refused_where g c = λ text line reason measures. absurd (run_or_measure (map string_bytes c.args.words.now.items) (sym c.is_run.ensures ∙ c.if-is_run.true) measures)
-
-pub returns-then-is_run-clause-limit_passed : goal.returns-then-is_run-clause-limit_passed
-returns-then-is_run-clause-limit_passed g c = (run_told c.carry_out_run.result c.exit_status.result _ _ c.exit_status.ensures c.carry_out_run.ensures.explained).passed
-
-pub returns-then-is_run-clause-limit_passed_where : goal.returns-then-is_run-clause-limit_passed_where
-returns-then-is_run-clause-limit_passed_where g c = λ text quantity count fits left passes.
-    (run_told c.carry_out_run.result c.exit_status.result _ _ c.exit_status.ensures c.carry_out_run.ensures.explained).passed_where text quantity count left passes
-
-pub returns-then-is_run-clause-pages_too_long : goal.returns-then-is_run-clause-pages_too_long
-returns-then-is_run-clause-pages_too_long g c = λ four measures. absurd (run_or_measure (map string_bytes c.args.words.now.items) (sym c.is_run.ensures ∙ c.if-is_run.true) measures)
-
-pub returns-then-is_run-clause-pages_too_long_where : goal.returns-then-is_run-clause-pages_too_long_where
-returns-then-is_run-clause-pages_too_long_where g c = λ text measures. absurd (run_or_measure (map string_bytes c.args.words.now.items) (sym c.is_run.ensures ∙ c.if-is_run.true) measures)
-
-pub returns-then-is_run-clause-digest_cut : goal.returns-then-is_run-clause-digest_cut
-returns-then-is_run-clause-digest_cut g c = λ six measures. absurd (run_or_measure (map string_bytes c.args.words.now.items) (sym c.is_run.ensures ∙ c.if-is_run.true) measures)
-
-pub returns-then-is_run-clause-memory_line : goal.returns-then-is_run-clause-memory_line
-returns-then-is_run-clause-memory_line g c = (run_told c.carry_out_run.result c.exit_status.result _ _ c.exit_status.ensures c.carry_out_run.ensures.explained).memory_line
-
-pub returns-then-is_run-clause-report_cut : goal.returns-then-is_run-clause-report_cut
-returns-then-is_run-clause-report_cut g c = λ six reads.
-    cut_by _ _ _ _ (sym c.is_run.ensures ∙ c.if-is_run.true) ((run_told c.carry_out_run.result c.exit_status.result _ _ c.exit_status.ensures c.carry_out_run.ensures.explained).cut six)
-
-pub returns-then-is_run-clause-run_complete : goal.returns-then-is_run-clause-run_complete
-returns-then-is_run-clause-run_complete g c = λ text c' fits left reads no_read no_write.
-    (run_told c.carry_out_run.result c.exit_status.result _ _ c.exit_status.ensures c.carry_out_run.ensures.explained).complete text c' left reads no_read no_write
-
-pub returns-then-is_run-clause-digest_complete : goal.returns-then-is_run-clause-digest_complete
-returns-then-is_run-clause-digest_complete g c = λ text pages measures. absurd (run_or_measure (map string_bytes c.args.words.now.items) (sym c.is_run.ensures ∙ c.if-is_run.true) measures)
-
-pub returns-else-is_run-clause-reported : goal.returns-else-is_run-clause-reported
-returns-else-is_run-clause-reported g c = λ zero reads.
+pub returns-then-is_run : goal.returns-then-is_run
+returns-then-is_run g c =
     let words : List (List ℕ) = map string_bytes c.args.words.now.items in
-    let replays = (or_other (is_run words) (is_replay words) (sym c.is_run.ensures ∙ c.if-is_run.false) reads) in
-    asked_by (is_run words) _ _ (sym c.is_run.ensures ∙ c.if-is_run.false) (batch_reported _ _ _ (c.snp_batch.ensures.scenario_read zero replays) (c.snp_batch.ensures.report_written zero replays))
+    let before : Outside = record { left = g.S.Source.left c.args.source.now; read_faults = g.S.Source.faults c.args.source.now; written = g.K.Sink.written c.args.sink.now; write_faults = g.K.Sink.faults c.args.sink.now } in
+    let now : Outside = record { left = g.S.Source.left c.carry_out_run-outcome.new.source; read_faults = g.S.Source.faults c.carry_out_run-outcome.new.source; written = g.K.Sink.written c.conclude.new.sink; write_faults = g.K.Sink.faults c.conclude.new.sink } in
+    let asked : Option Asked = c.read_words-asked.result in
+    let same : asked ≡ command_of words = c.read_words-asked.ensures in
+    let came = c.carry_out_run-outcome.ensures in
+    let ended = c.conclude.ensures in
+    let runs : command_of words ≡ Some asks.Run = sym same ∙ run_alone asked (sym c.is_run.ensures ∙ c.if-is_run.true) in
+    let exits : Exits (command_of words) c.conclude.result before now =
+    exits_as (sym runs) (concluded (Some asks.Run) c.carry_out_run-outcome.result c.conclude.result before _ _ _ _ _ _ came.came ended.status ended.line ended.later came.taken came.later) in
+    record {
+      exits = exits;
+      source_read = λ zero reads. done_read exits zero (reads_text_asked words reads);
+      reported = λ zero reads. done_reported (is_run words) (run_is words) exits zero (reads_scenario_asked words reads);
+      fleet_keeps = λ zero is. fleet_done c.carry_out_run-outcome.result c.conclude.result _ _ _ _ _ _ _ _ ended.status ended.line came.fleet_keeps zero;
+      fleet_untouched = λ is. absurd (false≢true (sym is ∙ run_is words ∙ ap asks_run runs));
+      source_unread = λ none. absurd (false≢true (sym (reads_not words none) ∙ ap asks_text runs));
+      fleet_cut = λ six is. fleet_stopped c.carry_out_run-outcome.result c.conclude.result _ _ _ _ _ _ _ _ ended.status ended.line came.fleet_cut six;
+    }
 
-pub returns-else-is_run-clause-scenario_refused : goal.returns-else-is_run-clause-scenario_refused
-returns-else-is_run-clause-scenario_refused g c = λ three reads.
+pub returns-else-is_run : goal.returns-else-is_run
+returns-else-is_run g c =
     let words : List (List ℕ) = map string_bytes c.args.words.now.items in
-    c.snp_batch.ensures.scenario_refused three (or_other (is_run words) (is_replay words) (sym c.is_run.ensures ∙ c.if-is_run.false) reads)
-
-pub returns-else-is_run-clause-scenario_refused_where : goal.returns-else-is_run-clause-scenario_refused_where
-returns-else-is_run-clause-scenario_refused_where g c = λ text line reason fits left refuses.
-    let words : List (List ℕ) = map string_bytes c.args.words.now.items in
-    c.snp_batch.ensures.scenario_refused_where text line reason (or_other (is_run words) (is_replay words) (sym c.is_run.ensures ∙ c.if-is_run.false) fits) left refuses
-
-pub returns-else-is_run-clause-limit_passed_where : goal.returns-else-is_run-clause-limit_passed_where
-returns-else-is_run-clause-limit_passed_where g c = λ text quantity count fits left passes.
-    let words : List (List ℕ) = map string_bytes c.args.words.now.items in
-    c.snp_batch.ensures.limit_passed_where text quantity count (or_other (is_run words) (is_replay words) (sym c.is_run.ensures ∙ c.if-is_run.false) fits) left passes
-
-pub returns-else-is_run-clause-report_cut : goal.returns-else-is_run-clause-report_cut
-returns-else-is_run-clause-report_cut g c = λ six reads.
-    let words : List (List ℕ) = map string_bytes c.args.words.now.items in
-    cut_by (is_run words) _ _ _ (sym c.is_run.ensures ∙ c.if-is_run.false) (batch_cut _ _ _ _ (c.snp_batch.ensures.report_cut six (or_other (is_run words) (is_replay words) (sym c.is_run.ensures ∙ c.if-is_run.false) reads)))
-
-pub returns-then-is_run-clause-scenario_drawn : goal.returns-then-is_run-clause-scenario_drawn
-returns-then-is_run-clause-scenario_drawn g c = λ number zero gen. absurd (run_or_drawn (map string_bytes c.args.words.now.items) number (sym c.is_run.ensures ∙ c.if-is_run.true) (inl gen))
-
-pub returns-then-is_run-clause-drill_written : goal.returns-then-is_run-clause-drill_written
-returns-then-is_run-clause-drill_written g c = λ number zero drill. absurd (run_or_drawn (map string_bytes c.args.words.now.items) number (sym c.is_run.ensures ∙ c.if-is_run.true) (inr drill))
-
-pub returns-then-is_run-clause-source_unread : goal.returns-then-is_run-clause-source_unread
-returns-then-is_run-clause-source_unread g c = λ number asks. absurd (run_or_drawn (map string_bytes c.args.words.now.items) number (sym c.is_run.ensures ∙ c.if-is_run.true) asks)
-
-pub returns-then-is_run-clause-drawn_statuses : goal.returns-then-is_run-clause-drawn_statuses
-returns-then-is_run-clause-drawn_statuses g c = λ number asks. absurd (run_or_drawn (map string_bytes c.args.words.now.items) number (sym c.is_run.ensures ∙ c.if-is_run.true) asks)
-
-pub returns-then-is_run-clause-scenario_cut : goal.returns-then-is_run-clause-scenario_cut
-returns-then-is_run-clause-scenario_cut g c = λ number six gen. absurd (run_or_drawn (map string_bytes c.args.words.now.items) number (sym c.is_run.ensures ∙ c.if-is_run.true) (inl gen))
-
-pub returns-then-is_run-clause-drill_cut : goal.returns-then-is_run-clause-drill_cut
-returns-then-is_run-clause-drill_cut g c = λ number six drill. absurd (run_or_drawn (map string_bytes c.args.words.now.items) number (sym c.is_run.ensures ∙ c.if-is_run.true) (inr drill))
-
-pub returns-then-is_run-clause-drawn_complete : goal.returns-then-is_run-clause-drawn_complete
-returns-then-is_run-clause-drawn_complete g c = λ number asks. absurd (run_or_drawn (map string_bytes c.args.words.now.items) number (sym c.is_run.ensures ∙ c.if-is_run.true) asks)
-
-pub returns-else-is_run-clause-source_read : goal.returns-else-is_run-clause-source_read
-returns-else-is_run-clause-source_read g c = λ zero reads.
-    let words : List (List ℕ) = map string_bytes c.args.words.now.items in
-    c.snp_batch.ensures.source_read zero (or_other (is_run words) (takes_text words) (sym c.is_run.ensures ∙ c.if-is_run.false) reads)
+    let before : Outside = record { left = g.S.Source.left c.args.source.now; read_faults = g.S.Source.faults c.args.source.now; written = g.K.Sink.written c.args.sink.now; write_faults = g.K.Sink.faults c.args.sink.now } in
+    let now : Outside = record { left = g.S.Source.left c.carry_out-outcome.new.source; read_faults = g.S.Source.faults c.carry_out-outcome.new.source; written = g.K.Sink.written c.conclude-else-is_run.new.sink; write_faults = g.K.Sink.faults c.conclude-else-is_run.new.sink } in
+    let asked : Option Asked = c.read_words-asked.result in
+    let same : asked ≡ command_of words = c.read_words-asked.ensures in
+    let came = c.carry_out-outcome.ensures in
+    let ended = c.conclude-else-is_run.ensures in
+    let not_run : asks_run asked ≡ false = sym c.is_run.ensures ∙ c.if-is_run.false in
+    let exits : Exits (command_of words) c.conclude-else-is_run.result before now =
+    exits_as (run_not asked not_run ∙ same) (concluded (without_threads asked) c.carry_out-outcome.result c.conclude-else-is_run.result before _ _ _ _ _ _ came.came ended.status ended.line ended.later came.taken came.later) in
+    record {
+      exits = exits;
+      source_read = λ zero reads. done_read exits zero (reads_text_asked words reads);
+      reported = λ zero reads. done_reported (is_run words) (run_is words) exits zero (reads_scenario_asked words reads);
+      fleet_keeps = λ zero is. absurd (false≢true (sym not_run ∙ ap asks_run same ∙ sym (run_is words) ∙ is));
+      fleet_untouched = λ is. refl;
+      source_unread = λ none. came.unread (ap asks_text (run_not asked not_run ∙ same) ∙ reads_not words none);
+      fleet_cut = λ six is. absurd (false≢true (sym not_run ∙ ap asks_run same ∙ sym (run_is words) ∙ is));
+    }

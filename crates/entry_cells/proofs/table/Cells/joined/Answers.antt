@@ -14,4 +14,4 @@ absorb-requires-clause-idle g c = (idle_last c.args.self.now _ _ _ c.in-Some-pop
 
 pub rest-preserved : goal.rest-preserved
 rest-preserved g c = let e = c.in-Some-pop.ensures.items in let is = c.absorb.ensures in let inv = c.rest.invariant in
-    (idle_rest c.args.self.now _ _ _ e inv.0, (ap (λ p. p.table) is ∙ inv.1.0, ap (λ p. p.view.opening) is ∙ inv.1.1), (λ k h. inv.2 k (ap (λ p. get_elem? p.view.held k) (sym is) ∙ h)), knows_next _ _ _ _ _ _ (ap (λ p. p.view) is) e inv.3)
+    (idle_rest c.args.self.now _ _ _ e inv.0, (ap (λ p. p.table) is ∙ inv.1.0, ap (λ p. p.view.opening) is ∙ inv.1.1, ap (λ p. p.view.actors) is ∙ inv.1.2), (λ k h. inv.2 k (ap (λ p. get_elem? p.view.held k) (sym is) ∙ h)), knows_next _ _ _ _ _ _ (ap (λ p. p.view) is) e inv.3)

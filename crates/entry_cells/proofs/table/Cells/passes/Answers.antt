@@ -4,7 +4,7 @@ use Rattle.entry_cells.proofs.PassLaws.{new_next, first_made}
 use Rattle.entry_cells.proofs.table.Cells.passes.Goals as goal
 
 pub another-next-requires-clause-pass : goal.another-next-requires-clause-pass
-another-next-requires-clause-pass g c = let inv = c.made.invariant in let h = inv.4 0 _ (at_index c.made.passes.items 0 _ (omega (arith, inv.0, inv.2, c.made.passes.ok.0)) c.index_mut.ensures.value) in (h.0, h.1.live)
+another-next-requires-clause-pass g c = let inv = c.made.invariant in let h = inv.4 0 _ (at_index c.made.passes.items 0 _ (omega (arith, inv.0, inv.2, c.made.passes.ok.0)) c.index_mut.ensures.value) in (h.0, h.1.live, h.1.many)
 
 pub another-next-requires-clause-first : goal.another-next-requires-clause-first
 another-next-requires-clause-first g c = let inv = c.made.invariant in let h = inv.4 0 _ (at_index c.made.passes.items 0 _ (omega (arith, inv.0, inv.2, c.made.passes.ok.0)) c.index_mut.ensures.value) in (h.1.actor, h.1.seen)
